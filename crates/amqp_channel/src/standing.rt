@@ -7,7 +7,7 @@ ghost use Rattle.std.specs.Prelude.{◌≡◌, ◌++◌, ◌∷◌, true, false,
 ghost use Rattle.amqp_method.specs.MethodRefView.{lent_call};
 ghost use Rattle.amqp_method.specs.MethodView.{method_view};
 ghost use Rattle.amqp_method.specs.Requests.{is_request};
-ghost use Rattle.amqp_model.specs.End.Answers.{first_of};
+ghost use Rattle.amqp_model.specs.End.Answers.{first_request};
 ghost use Rattle.amqp_model.specs.End.Channels as model;
 ghost use Rattle.amqp_model.specs.End.Channels.{Open};
 ghost use Rattle.amqp_model.specs.End.FrameVerdict.{answers_first};
@@ -125,7 +125,7 @@ impl Standing {
 
     /// The oldest request without a reply.
     pub fn oldest_request(&self) -> Option<Kind>
-        ensures { result ≡ first_of (requests_in self.now) }
+        ensures { result ≡ first_request (requests_in self.now) }
     {
         match self {
             Standing::Quiet { .. } => None,

@@ -11,7 +11,7 @@ use Rattle.amqp_frame.specs.Splitting.{IsRest, Tells, TellsFirst}
 use Rattle.amqp_frame.specs.Stream.{Stream}
 use Rattle.amqp_frame.specs.declared.faults.FrameFaultKind.{FrameFaultKind}
 use Rattle.amqp_frame.specs.declared.faults.FrameFaultKind.TheVariants as kinds
-use Rattle.amqp_model.specs.Stream.Endpoint.{Endpoint, Feeding, Outcome, Unfinished, Finished, Found, Judgement, Begun, Whole, Wrong, after_judged, after_feed, awaits_opening, goes_on_with, greeting, outcome_of, owed_at_fault}
+use Rattle.amqp_model.specs.Stream.Endpoint.{Endpoint, Feeding, Outcome, Unfinished, Finished, Found, Judgement, Begun, Whole, Wrong, after_judged, after_feed, awaits_opening, holds_octets, owed_at_start, outcome_of, owed_at_fault}
 use Rattle.amqp_model.specs.End.EndVerdict.{end_verdict, facts_at, takes_frames}
 use Rattle.amqp_model.specs.End.Events.{Event, Quiet, WrongProtocolHeader, FrameVerdict, Proceeds, RefusesContent, Faults}
 use Rattle.amqp_model.specs.End.Channels.{End, Phase, Handshake, AwaitsProtocolHeader}
@@ -100,7 +100,7 @@ account_of_frame role config old piece fed count octets frame came one r is whol
 -- A frame is begun, and no more came.
 pub account_of_rest : (role : Role) (config : Config role) (old : Endpoint) (piece : List ℕ) (fed : Feeding) (count octets : ℕ) (came : Came)
     → OneIsSaid → reads_frames role old.end.phase ≡ true
-    → fed ≡ with_taken count (goes_on_with old (old.unfinished ++ piece)) → count ≡ length piece
+    → fed ≡ with_taken count (holds_octets old (old.unfinished ++ piece)) → count ≡ length piece
     → IsRest (frame_limit old.end.agreed) (old.unfinished ++ piece)
     → octets ≡ count → came ≡ puts_alone [] → IsAccount role config old piece fed octets came
 account_of_rest role config old piece fed count octets came one r is all rest octets_are came_is =
@@ -203,7 +203,7 @@ account_of_stop role config old stream piece kinds.Failed at octets came one law
 -- what came of them, by what the definitions say that they come to
 pub account_of_opening : (role : Role) (config : Config role) (old : Endpoint) (piece : List ℕ) (fed : Feeding) (octets : ℕ) (came : Came)
     → awaits_opening role old.end.phase ≡ true → octets ≡ fed.taken
-    → (fed.outcome ≡ Unfinished → came ≡ puts_alone []) → (fed.outcome ≡ Finished (Some Quiet) → came ≡ puts_alone (greeting role config)) → (fed.outcome ≡ Found WrongProtocolHeader → came ≡ puts_alone [])
+    → (fed.outcome ≡ Unfinished → came ≡ puts_alone []) → (fed.outcome ≡ Finished (Some Quiet) → came ≡ puts_alone (owed_at_start role config)) → (fed.outcome ≡ Found WrongProtocolHeader → came ≡ puts_alone [])
     → IsAccount role config old piece fed octets came
 account_of_opening role config old piece fed octets came awaits octets_are waits greets differs = record {
   octets_are = octets_are;
@@ -260,7 +260,7 @@ account_of_other role config old new piece octets came awaits fed octets_are cam
 
 -- the same of an end that has put start
 pub account_of_whole : (role : Role) (config : Config role) (event : Option Event) (old new : Endpoint) (piece : List ℕ) (count octets : ℕ) (came : Came)
-    → awaits_opening role old.end.phase ≡ true → event ≡ Some Quiet → IsFed (Ok (record { octets = count; event = event })) old (after_feed role config old piece) new → octets ≡ count → came ≡ puts_alone (greeting role config)
+    → awaits_opening role old.end.phase ≡ true → event ≡ Some Quiet → IsFed (Ok (record { octets = count; event = event })) old (after_feed role config old piece) new → octets ≡ count → came ≡ puts_alone (owed_at_start role config)
     → IsAccount role config old piece (after_feed role config old piece) octets came
 account_of_whole role config event old new piece count octets came awaits quiet fed octets_are came_is =
     let says = subst (λ o. AnswersEvent o (after_feed role config old piece).outcome) quiet fed.answer in

@@ -5,7 +5,7 @@ use Rattle.std.proofs.lemmas.Bool.{true≢false}
 use Rattle.std.specs.Coded.{le_prop}
 use Rattle.amqp_value.specs.Lengths.{capped}
 use Rattle.amqp_model.specs.End.Amounts.{body_octets_on, contents_kept, sum_to, GathersOctets, IsSum, KeepsOctets}
-use Rattle.amqp_model.specs.End.Answers.{gathered, kept_in}
+use Rattle.amqp_model.specs.End.Answers.{octets_gathered, kept_in}
 use Rattle.amqp_model.specs.End.Channels.{End, Phase, Handshake, Running, Closed, Failed}
 use Rattle.amqp_model.specs.End.Fitting.{ConfigWrites}
 use Rattle.amqp_model.specs.History.Histories.{History}
@@ -37,7 +37,7 @@ abbrev is_running : Name → Bool
 is_running name.Running = true
 is_running name = false
 
-in_phase : (end : End) (phase : Phase) → end.phase ≡ phase → (n : ℕ) → gathered end n ≡ length (kept_in phase (end.channels n))
+in_phase : (end : End) (phase : Phase) → end.phase ≡ phase → (n : ℕ) → octets_gathered end n ≡ length (kept_in phase (end.channels n))
 in_phase end phase e n = ap (λ p. length (kept_in p (end.channels n))) e
 
 -- all that is kept of bodies, while the connection is Running
@@ -50,16 +50,16 @@ gathers_bodies end bodies count running sum is = by end.phase refl
 
     by : (phase : Phase) → end.phase ≡ phase → GathersOctets end count
     by (Handshake step) e = over (Handshake step) e refl
-    by Running e = λ most least. is ∙ ap capped (sum most least ∙ sym (sums_alike most (gathered end) (λ number. body_octets_on (end.channels number)) (in_phase end Running e)))
+    by Running e = λ most least. is ∙ ap capped (sum most least ∙ sym (sums_alike most (octets_gathered end) (λ number. body_octets_on (end.channels number)) (in_phase end Running e)))
     by Phase.Closing e = over Phase.Closing e refl
     by Closed e = over Closed e refl
     by Failed e = over Failed e refl
 
 -- and nothing in every other phase
 pub gathers_none : (end : End) (phase : Name) → phase_name end.phase ≡ phase → is_running phase ≡ false → GathersOctets end 0
-gathers_none end name e not_running most least = ap capped (sym (sum_of_none most (gathered end) (by end.phase refl)))
+gathers_none end name e not_running most least = ap capped (sym (sum_of_none most (octets_gathered end) (by end.phase refl)))
   where
-    by : (phase : Phase) → end.phase ≡ phase → (n : ℕ) → gathered end n ≡ 0
+    by : (phase : Phase) → end.phase ≡ phase → (n : ℕ) → octets_gathered end n ≡ 0
     by (Handshake step) p n = in_phase end (Handshake step) p n
     by Running p n = absurd (true≢false (ap is_running (sym (ap phase_name p) ∙ e) ∙ not_running))
     by Phase.Closing p n = in_phase end Phase.Closing p n

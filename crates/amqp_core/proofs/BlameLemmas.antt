@@ -11,7 +11,7 @@ use Rattle.amqp_model.specs.End.EndVerdict.{takes_frames, takes_octets}
 use Rattle.amqp_model.specs.End.Events.{Event}
 use Rattle.amqp_model.specs.History.Negotiation.{Config, frame_limit}
 use Rattle.amqp_model.specs.Laws.OctetLaws.{CompletesFrame, IsWhole, OneIsSaid}
-use Rattle.amqp_model.specs.Stream.Endpoint.{Begun, Endpoint, Feeding, Found, Outcome, Whole, Wrong, after_judged, awaits_opening, fault_told, goes_on_with}
+use Rattle.amqp_model.specs.Stream.Endpoint.{Begun, Endpoint, Feeding, Found, Outcome, Whole, Wrong, after_judged, awaits_opening, fault_told, holds_octets}
 use Rattle.amqp_model.specs.Stream.Pieces.{reads_frames, with_taken}
 use Rattle.amqp_model.specs.Wire.Frame.{Frame}
 use Rattle.amqp_model.specs.Wire.Notes.{Role}
@@ -95,7 +95,7 @@ blames_of_frame {A} role config result old piece fed count frame before between 
 -- A frame is begun, and no more came.
 pub blames_of_rest : {A : Type 0} (role : Role) (result : Result A CoreFault) (old : Endpoint) (piece : List ℕ) (fed : Feeding) (count : ℕ) (before after : Tally)
     → OneIsSaid → reads_frames role old.end.phase ≡ true
-    → fed ≡ with_taken count (goes_on_with old (old.unfinished ++ piece)) → count ≡ length piece
+    → fed ≡ with_taken count (holds_octets old (old.unfinished ++ piece)) → count ≡ length piece
     → IsRest (frame_limit old.end.agreed) (old.unfinished ++ piece)
     → code_found result ≡ None → after ≡ record before { taken = counted before.taken count }
     → Blames role result old piece fed before after

@@ -3,7 +3,7 @@ use Rattle.std.proofs.Common.{◌≡◌, ◌≢◌, ◌≤◌, Bool, true, false
 use Rattle.std.proofs.Math.Logic.{∥∥₁_map, ∥∥₁_elim}
 use Rattle.std.proofs.lemmas.Bool.{true≢false, false≢true}
 use Rattle.std.specs.Coded.{le_prop}
-use Rattle.amqp_model.specs.End.Answers.{gathered}
+use Rattle.amqp_model.specs.End.Answers.{octets_gathered}
 use Rattle.amqp_model.specs.End.Bounds.{ChannelIsWithin, EndIsWithin, FrameStaysWithin, GatheredIsWithin}
 use Rattle.amqp_model.specs.End.Channels.{Channel, End, Phase, Handshake, Running, Closing, Closed, Failed}
 use Rattle.amqp_model.specs.End.EndVerdict.{end_verdict, goes_on, takes_octets}
@@ -43,7 +43,7 @@ pub bounded_frame : (role : Role) (config : Config role) (old new : End) (frame 
 bounded_frame role config old new frame true law takes bounded same = bounded_failed role config new same.phase
 bounded_frame role config old new frame false law takes bounded same = after_frame role config old new frame (goes_on (end_verdict config old frame)) refl law takes bounded same
 
-by_phase : (role : Role) (config : Config role) (end : End) (n : ℕ) (phase : Phase) → end.phase ≡ phase → GatheredIsWithin role config end n → IsBounded role config end → gathered end n ≤ config.max_body
+by_phase : (role : Role) (config : Config role) (end : End) (n : ℕ) (phase : Phase) → end.phase ≡ phase → GatheredIsWithin role config end n → IsBounded role config end → octets_gathered end n ≤ config.max_body
 by_phase role config end n (Handshake step) e law bounded = ∥∥₁_elim (bounded (ap takes_octets e)) le_prop law
 by_phase role config end n Running e law bounded = ∥∥₁_elim (bounded (ap takes_octets e)) le_prop law
 by_phase role config end n Closing e law bounded = ∥∥₁_elim (bounded (ap takes_octets e)) le_prop law
@@ -51,5 +51,5 @@ by_phase role config end n Closed e law bounded = rw e (omega arith)
 by_phase role config end n Failed e law bounded = rw e (omega arith)
 
 -- no more of a body is gathered than the end takes
-pub gathered_within : (role : Role) (config : Config role) (end : End) (n : ℕ) → GatheredIsWithin role config end n → IsBounded role config end → gathered end n ≤ config.max_body
+pub gathered_within : (role : Role) (config : Config role) (end : End) (n : ℕ) → GatheredIsWithin role config end n → IsBounded role config end → octets_gathered end n ≤ config.max_body
 gathered_within role config end n law bounded = by_phase role config end n end.phase refl law bounded

@@ -25,7 +25,7 @@ use Rattle.amqp_outbox.specs.OutboxView.{Outgoing}
 use Rattle.amqp_core.specs.Asks.Controlled.{frames_by, refusal_by, IsControlled, IsRefusedControl, PutsFrames, RefusesFirst}
 use Rattle.amqp_core.specs.Connection.Decisions.{holds_client, holds_start, HoldsNone, DecidesIn, Decides}
 use Rattle.amqp_core.specs.Faults.Numbers.{refusal_view}
-use Rattle.amqp_core.specs.Connection.HandshakeMethods.{IsTune, said_by, start_ok_saying}
+use Rattle.amqp_core.specs.Connection.HandshakeMethods.{IsTune, start_ok_with, start_ok_saying}
 use Rattle.amqp_core.specs.Config.Settings.{config_view, role_for, role_in}
 use Rattle.amqp_core.specs.Connection.Stages.{agreed_at, phase_at}
 use Rattle.amqp_core.specs.declared.faults.AskFault.{AskFault}
@@ -261,8 +261,8 @@ client_answers config properties mechanism response locale says short = record {
 }
 
 pub answers_start : (settings : Settings) (hello : ClientHello) (mechanism response locale : List ℕ) (method : Method) → settings.hello ≡ code.Client hello
-    → nat_lt FRAME_MIN (frame_length (method_frame 0 (said_by hello mechanism response locale))) ≡ false
-    → method ≡ said_by hello mechanism response locale
+    → nat_lt FRAME_MIN (frame_length (method_frame 0 (start_ok_with hello mechanism response locale))) ≡ false
+    → method ≡ start_ok_with hello mechanism response locale
     → Decides settings (AnswerStart mechanism response locale) stages.HoldsStart stages.AwaitsTune method
 answers_start settings hello mechanism response locale method is short said =
     let config : Config Client = config_with settings (code.Client hello) in
@@ -274,11 +274,11 @@ answers_start settings hello mechanism response locale method is short said =
 -- what comes of an answer is what its length says
 pub answers_in_by : (settings : Settings) (hello : ClientHello) (mechanism response locale : List ℕ) → settings.hello ≡ code.Client hello
     → answers_in (role_for settings) (config_view settings) (Handshake HoldsStart) mechanism response locale
-    ≡ puts_short (method_frame 0 (said_by hello mechanism response locale))
+    ≡ puts_short (method_frame 0 (start_ok_with hello mechanism response locale))
 answers_in_by settings hello mechanism response locale is =
     by_hello
     (λ role config. answers_in role config (Handshake HoldsStart) mechanism response locale
-    ≡ puts_short (method_frame 0 (said_by hello mechanism response locale)))
+    ≡ puts_short (method_frame 0 (start_ok_with hello mechanism response locale)))
     settings (code.Client hello) is refl
 
 -- a frame that is no longer than 4096 octets is not refused
@@ -286,11 +286,11 @@ pub fits_short : (frame : Frame) → nat_lt FRAME_MIN (frame_length frame) ≡ f
 fits_short frame short = sym (ap (λ long. refusal_by (unless_long long frame)) short)
 
 pub answer_fits : (settings : Settings) (hello : ClientHello) (mechanism response locale : List ℕ) → settings.hello ≡ code.Client hello
-    → nat_lt FRAME_MIN (frame_length (method_frame 0 (said_by hello mechanism response locale))) ≡ false
+    → nat_lt FRAME_MIN (frame_length (method_frame 0 (start_ok_with hello mechanism response locale))) ≡ false
     → refusal_by (answers_in (role_for settings) (config_view settings) (Handshake HoldsStart) mechanism response locale) ≡ None
 answer_fits settings hello mechanism response locale is short =
     ap refusal_by (answers_in_by settings hello mechanism response locale is)
-    ∙ sym (fits_short (method_frame 0 (said_by hello mechanism response locale)) short)
+    ∙ sym (fits_short (method_frame 0 (start_ok_with hello mechanism response locale)) short)
 
 pub both_ok : {A E : Type 0} (result : Result A E) (P R : A → Type 0) (Q : Type 0) → ((a : A) → P a → Q → R a) → IfOk result P → OnOk result Q → IfOk result R
 both_ok (Ok a) P R Q f p q = f a p q

@@ -14,7 +14,7 @@ use Rattle.amqp_model.specs.Pair.Sent.{Telling, life_on, told, said, told_at, go
 use Rattle.amqp_model.specs.Stream.Traces.{IsTaken, Noted, noted, trace, PutsTellNothing, SaysMethod, TracePuts, telling_at, telling_above}
 use Rattle.amqp_channel.specs.Events.EventView.{agreed_view}
 use Rattle.amqp_channel.specs.declared.verdict.Reply.TheVariants as replies
-use Rattle.amqp_core.specs.Traced.Noting.{item_of_reply, lives_in, noted_owed, notes_owed, said_by_owed, told_by}
+use Rattle.amqp_core.specs.Traced.Noting.{item_of_reply, lives_in, noted_owed, notes_owed, said_by_owed, note_tells}
 use Rattle.amqp_core.specs.Connection.Owed.{owed_view, starts, answers_start, tunes, answers_tune}
 use Rattle.amqp_core.specs.Config.Settings.{config_view, role_for}
 use Rattle.amqp_core.specs.declared.owed.Owed.{Owed}
@@ -133,7 +133,7 @@ told_agrees role config frame history notes (suc n) item e notes_are law = ap (�
 pub frame-listed : (settings : Settings) (frame : Frame) (item : Option Item) (history : History) (notes : List Noted) (tells says : List Telling)
     → told (role_for settings) (config_view settings) (Took frame ∷ history) ≡ told (role_for settings) (config_view settings) history ++ telling_at frame.channel (life_on (role_for settings) frame.channel history) item
     → Lists (role_for settings) (config_view settings) notes tells says history
-    → Lists (role_for settings) (config_view settings) (notes ++ noted IsTaken frame ∷ []) (tells ++ told_by (lives_in (role_for settings) notes) (Some (noted IsTaken frame)) item) says (Took frame ∷ history)
+    → Lists (role_for settings) (config_view settings) (notes ++ noted IsTaken frame ∷ []) (tells ++ note_tells (lives_in (role_for settings) notes) (Some (noted IsTaken frame)) item) says (Took frame ∷ history)
 frame-listed settings frame item history notes tells says law lists =
     let role = role_for settings in
     let config = config_view settings in

@@ -11,7 +11,7 @@ use Rattle.amqp_model.specs.End.Closes as closes
 use Rattle.amqp_model.specs.End.Closes.{AllReadBack, frame_of}
 use Rattle.amqp_model.specs.Laws.EndLaws.{VerdictOfHistory}
 use Rattle.amqp_model.specs.End.EndVerdict.{end_puts, end_verdict, facts_at, goes_on}
-use Rattle.amqp_model.specs.Stream.Endpoint.{Endpoint, Feeding, awaits_opening, fault_told, greeting, owed_at_fault, outcome_of}
+use Rattle.amqp_model.specs.Stream.Endpoint.{Endpoint, Feeding, awaits_opening, fault_told, owed_at_start, owed_at_fault, outcome_of}
 use Rattle.amqp_model.specs.End.Events.{Fault, Faults}
 use Rattle.amqp_model.specs.Wire.Frame.{Frame}
 use Rattle.amqp_model.specs.End.FrameVerdict.{Facts, methods_put}
@@ -31,7 +31,7 @@ use Rattle.amqp_model.specs.Stream.Traces.{IsTaken, Noted, noted, PutsTellNothin
 use Rattle.amqp_core.specs.Traced.AccountView.{Came, IsAccount, item_in_outcome, puts_alone, came_of_frame}
 use Rattle.amqp_core.specs.Faults.FaultShown as shows
 use Rattle.amqp_core.specs.Faults.FaultShown.{EndsInFault}
-use Rattle.amqp_core.specs.Traced.Noting.{lives_in, notes_owed, said_by_owed, told_by}
+use Rattle.amqp_core.specs.Traced.Noting.{lives_in, notes_owed, said_by_owed, note_tells}
 use Rattle.amqp_core.specs.Connection.Owed.{owed_view}
 use Rattle.amqp_core.specs.Config.Settings.{config_view, role_for}
 use Rattle.amqp_core.specs.Traced.Tracing as tracing
@@ -56,10 +56,10 @@ pub record TraceLaws (role : Role) (config : Config role) : Type 0 where
 -- how the lists have grown by what came
 pub record ListsGrow (role : Role) (old new : Kept) (took : Option Noted) (item : Option Item) (owed : Owed) : Type 0 where
   pub notes : new.notes ≡ old.notes ++ (option_to_list took ++ notes_owed role owed)
-  pub told : new.told ≡ old.told ++ told_by (lives_in role old.notes) took item
+  pub told : new.told ≡ old.told ++ note_tells (lives_in role old.notes) took item
   pub said : new.said ≡ old.said ++ said_by_owed (lives_in role (old.notes ++ option_to_list took)) owed
 
-greeting_back : (role : Role) (config : Config role) → GreetingReadsBack role config → AllReadBack (greeting role config)
+greeting_back : (role : Role) (config : Config role) → GreetingReadsBack role config → AllReadBack (owed_at_start role config)
 greeting_back Client config back = tt
 greeting_back Server config back = (back, tt)
 
@@ -80,7 +80,7 @@ alone settings old new took item owed put history laws grow came back traced =
     let role = role_for settings in
     let none : took ≡ None = ap (λ (c : Came). c.took) came in
     let notes : new.notes ≡ old.notes ++ notes_owed role owed = grow.notes ∙ ap (λ (t : Option Noted). old.notes ++ (option_to_list t ++ notes_owed role owed)) none in
-    let tells : new.told ≡ old.told = grow.told ∙ (ap (λ (t : Option Noted). old.told ++ told_by (lives_in role old.notes) t item) none ∙ append-nil old.told) in
+    let tells : new.told ≡ old.told = grow.told ∙ (ap (λ (t : Option Noted). old.told ++ note_tells (lives_in role old.notes) t item) none ∙ append-nil old.told) in
     let says : new.said ≡ old.said ++ said_by_owed (lives_in role old.notes) owed =
     grow.said ∙ (ap (λ (t : Option Noted). old.said ++ said_by_owed (lives_in role (old.notes ++ option_to_list t)) owed) none ∙ ap (λ ns. old.said ++ said_by_owed (lives_in role ns) owed) (append-nil old.notes)) in
     let lists = puts-listed settings owed put history old.notes new.notes old.told old.said new.said laws.puts laws.puts_tell laws.says (ap (λ (c : Came). c.owed) came) back (record { noted = traced.noted; told = traced.told; said = traced.said }) notes says in
@@ -103,13 +103,13 @@ with_frame settings old new end frame took item owed history laws grow came law 
     let item_is : item ≡ tells_item = ap (λ (c : Came). c.item) came in
     let notes : new.notes ≡ (old.notes ++ this ∷ []) ++ notes_owed role owed =
     grow.notes ∙ (ap (λ (t : Option Noted). old.notes ++ (option_to_list t ++ notes_owed role owed)) took_is ∙ sym (append_assoc old.notes (this ∷ []) (notes_owed role owed))) in
-    let tells : new.told ≡ old.told ++ told_by (lives_in role old.notes) (Some this) tells_item =
-    grow.told ∙ (ap (λ (t : Option Noted). old.told ++ told_by (lives_in role old.notes) t item) took_is ∙ ap (λ (i : Option Item). old.told ++ told_by (lives_in role old.notes) (Some this) i) item_is) in
+    let tells : new.told ≡ old.told ++ note_tells (lives_in role old.notes) (Some this) tells_item =
+    grow.told ∙ (ap (λ (t : Option Noted). old.told ++ note_tells (lives_in role old.notes) t item) took_is ∙ ap (λ (i : Option Item). old.told ++ note_tells (lives_in role old.notes) (Some this) i) item_is) in
     let says : new.said ≡ old.said ++ said_by_owed (lives_in role (old.notes ++ this ∷ [])) owed =
     grow.said ∙ ap (λ (t : Option Noted). old.said ++ said_by_owed (lives_in role (old.notes ++ option_to_list t)) owed) took_is in
     let here : told role config (Took frame ∷ history) ≡ told role config history ++ telling_at frame.channel (life_on role frame.channel history) tells_item = sym (laws.puts_tell (end_puts config end frame) (Took frame ∷ history)) ∙ law in
     let first = frame-listed settings frame tells_item history old.notes old.told old.said here (record { noted = traced.noted; told = traced.told; said = traced.said }) in
-    let lists = puts-listed settings owed (methods_put (facts_at config end frame.channel) (end_verdict config end frame)) (Took frame ∷ history) (old.notes ++ this ∷ []) new.notes (old.told ++ told_by (lives_in role old.notes) (Some this) tells_item) old.said new.said
+    let lists = puts-listed settings owed (methods_put (facts_at config end frame.channel) (end_verdict config end frame)) (Took frame ∷ history) (old.notes ++ this ∷ []) new.notes (old.told ++ note_tells (lives_in role old.notes) (Some this) tells_item) old.said new.said
     laws.puts laws.puts_tell laws.says (ap (λ (c : Came). c.owed) came) (laws.writes.owed end frame.channel (reading frame)) first notes says in
     record { noted = lists.noted; told = tells ∙ lists.told; said = lists.said }
 
@@ -186,8 +186,8 @@ follow-trace settings old new piece fed count took item owed history laws grow a
 follow-trace settings old new piece fed count took item owed history laws grow account f w traced stands not_closed (octets.greets awaits none outcome stands_then) =
     let role = role_for settings in
     let config = config_view settings in
-    let lists = alone settings old new took item owed (greeting role config) history laws grow (account.greets awaits outcome) (greeting_back role config laws.writes.greeting) traced in
-    record { after = then_put (map frame_of (greeting role config)) history; grows = grown.greets awaits none outcome; trace = traced_by role config new _ lists (stood role config new _ _ _ f w stands_then) }
+    let lists = alone settings old new took item owed (owed_at_start role config) history laws grow (account.greets awaits outcome) (greeting_back role config laws.writes.greeting) traced in
+    record { after = then_put (map frame_of (owed_at_start role config)) history; grows = grown.greets awaits none outcome; trace = traced_by role config new _ lists (stood role config new _ _ _ f w stands_then) }
 follow-trace settings old new piece fed count took item owed history laws grow account f w traced stands not_closed (octets.takes frame phase whole on outcome stands_then) =
     let role = role_for settings in
     let config = config_view settings in

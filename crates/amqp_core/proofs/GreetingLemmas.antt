@@ -6,7 +6,7 @@ use Rattle.amqp_model.specs.End.Fitting.{greeting}
 use Rattle.amqp_model.specs.Wire.Methods.{Method}
 use Rattle.amqp_model.specs.History.Negotiation.{Config}
 use Rattle.amqp_model.specs.Wire.Notes.{Role}
-use Rattle.amqp_core.specs.Connection.HandshakeMethods.{IsStart, IsStartLength, greeting_length, said_by, start_ok_octets}
+use Rattle.amqp_core.specs.Connection.HandshakeMethods.{IsStart, IsStartLength, greeting_length, start_ok_with, start_ok_octets}
 use Rattle.amqp_core.specs.Config.Settings.{role_for, config_view}
 use Rattle.amqp_core.specs.declared.settings.ClientHello.{ClientHello}
 use Rattle.amqp_core.specs.declared.settings.ServerHello.{ServerHello}
@@ -18,7 +18,7 @@ abbrev Greets : Method → (role : Role) → Config role → Type 0
 Greets method role config = method ≡ greeting role config
 
 pub greets-client : (settings : Settings) (hello : ClientHello) (method : Method) → settings.hello ≡ code.Client hello
-    → method ≡ said_by hello hello.mechanism hello.response.items hello.locale
+    → method ≡ start_ok_with hello hello.mechanism hello.response.items hello.locale
     → Greets method (role_for settings) (config_view settings)
 greets-client settings hello method is said = by_hello (Greets method) settings (code.Client hello) is said
 

@@ -11,7 +11,7 @@ use Rattle.amqp_model.specs.Output.Arrangement.{turn, last_after, placed}
 use Rattle.amqp_model.specs.End.Channels.{Agreed, End}
 use Rattle.amqp_model.specs.End.Closes as closes
 use Rattle.amqp_model.specs.End.Closes.{frame_of}
-use Rattle.amqp_model.specs.Stream.Endpoint.{greeting, owed_at_fault}
+use Rattle.amqp_model.specs.Stream.Endpoint.{owed_at_start, owed_at_fault}
 use Rattle.amqp_model.specs.End.EndVerdict.{end_puts, end_verdict, facts_at}
 use Rattle.amqp_model.specs.End.Fitting.{ConfigWrites}
 use Rattle.amqp_model.specs.Laws.FittingLaws.{AllWithin, OwedAreShort, CloseIsShort}
@@ -145,14 +145,14 @@ stop_grows settings end kind fault owed old new short owed_is puts =
 
 -- A server greets.
 
-greeting_within : (role : Role) (config : Config role) → ConfigWrites config → AllWithin FRAME_MIN (map frame_of (greeting role config))
+greeting_within : (role : Role) (config : Config role) → ConfigWrites config → AllWithin FRAME_MIN (map frame_of (owed_at_start role config))
 greeting_within Client config writes = tt
 greeting_within Server config writes = (writes.greeting_short, tt)
 
-few_greeting : (role : Role) (config : Config role) → length (greeting role config) ≤ 2
+few_greeting : (role : Role) (config : Config role) → length (owed_at_start role config) ≤ 2
 few_greeting Client config = omega arith
 few_greeting Server config = omega arith
 
-pub greeting_grows : (role : Role) (config : Config role) (old : Output) (new : Outgoing) → ∥ ConfigWrites config ∥₁ → new ≡ only (after_puts (map frame_of (greeting role config)) old) → GrowsLittle old new.output
+pub greeting_grows : (role : Role) (config : Config role) (old : Output) (new : Outgoing) → ∥ ConfigWrites config ∥₁ → new ≡ only (after_puts (map frame_of (owed_at_start role config)) old) → GrowsLittle old new.output
 greeting_grows role config old new writes puts =
-    ∥∥₁_elim writes le_prop (λ w. grown_by false (greeting role config) old new (λ e. few_greeting role config) (greeting_within role config w) puts)
+    ∥∥₁_elim writes le_prop (λ w. grown_by false (owed_at_start role config) old new (λ e. few_greeting role config) (greeting_within role config w) puts)

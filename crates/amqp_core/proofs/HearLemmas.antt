@@ -7,7 +7,7 @@ use Rattle.amqp_frame.specs.Stream.{Stream}
 use Rattle.amqp_model.specs.End.Channels.{Channel, End, Phase, Handshake, AwaitsStartOk, Running, Closing, Closed, Failed}
 use Rattle.amqp_model.specs.End.Closes.{frame_of}
 use Rattle.amqp_model.specs.Stream.Endpoint as model
-use Rattle.amqp_model.specs.Stream.Endpoint.{Differs, Feeding, after_feed, after_opening, awaits_opening, greeting, output_of}
+use Rattle.amqp_model.specs.Stream.Endpoint.{Differs, Feeding, after_feed, after_opening, awaits_opening, owed_at_start, output_of}
 use Rattle.amqp_model.specs.End.EndVerdict.{takes_octets}
 use Rattle.amqp_model.specs.End.Events.{Event, Quiet}
 use Rattle.amqp_model.specs.End.Machine.{as_failed, end_after_owed}
@@ -60,7 +60,7 @@ same_end one other e = subst (SameEnd one) e (record { phase = refl; agreed = re
 pub whole_fed : (role : Role) (config : Config role) (event : Option Event) (end new : End) (heard count : ℕ) (pending piece : List ℕ) (output put : Output) →
     let old : model.Endpoint = record { end = end; unfinished = unfinished_of heard pending; output = output } in
     FeedEndsOpening role config old piece count → awaits_opening role end.phase ≡ true → HoldsUnfinished role old → pending ≡ [] → count ≤ length piece → heard + count ≡ 8 → take heard PROTOCOL_HEADER ++ take count piece ≡ take (heard + count) PROTOCOL_HEADER
-    → new ≡ end_after_owed role config (greeting role config) end → put ≡ after_puts (map frame_of (greeting role config)) output → event ≡ Some Quiet
+    → new ≡ end_after_owed role config (owed_at_start role config) end → put ≡ after_puts (map frame_of (owed_at_start role config)) output → event ≡ Some Quiet
     → IsFed (Ok (record { octets = count; event = event })) old (after_feed role config old piece) (record { end = new; unfinished = unfinished_of 0 pending; output = put })
 whole_fed role config event end new heard count pending piece output put law awaits holds none within all same ends puts quiet =
     let old : model.Endpoint = record { end = end; unfinished = unfinished_of heard pending; output = output } in

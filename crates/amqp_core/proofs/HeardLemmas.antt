@@ -15,7 +15,7 @@ use Rattle.amqp_model.specs.End.Heard.{awaited_by, heard_after, hears}
 use Rattle.amqp_model.specs.End.Machine.{taken_verdict}
 use Rattle.amqp_model.specs.History.Negotiation.{Config, frame_limit}
 use Rattle.amqp_model.specs.Laws.OctetLaws.{IsWhole, OneIsSaid, event_of_frame}
-use Rattle.amqp_model.specs.Stream.Endpoint.{Endpoint, Feeding, Begun, Whole, after_judged, awaits_opening, goes_on_with}
+use Rattle.amqp_model.specs.Stream.Endpoint.{Endpoint, Feeding, Begun, Whole, after_judged, awaits_opening, holds_octets}
 use Rattle.amqp_model.specs.Stream.Pieces.{reads_frames, with_taken}
 use Rattle.amqp_model.specs.Wire.Contents.{Content}
 use Rattle.amqp_model.specs.Wire.Frame.{Frame}
@@ -327,7 +327,7 @@ frame_heard role config result old piece fed count frame before after one r is w
 
 pub rest_heard : {A : Type 0} (role : Role) (config : Config role) (result : Result A CoreFault) (old : Endpoint) (piece : List ℕ) (fed : Feeding) (count : ℕ) (kept : Said)
     → OneIsSaid → reads_frames role old.end.phase ≡ true
-    → fed ≡ with_taken count (goes_on_with old (old.unfinished ++ piece)) → old.unfinished ++ piece ≡ old.unfinished ++ take count piece
+    → fed ≡ with_taken count (holds_octets old (old.unfinished ++ piece)) → old.unfinished ++ piece ≡ old.unfinished ++ take count piece
     → IsRest (frame_limit old.end.agreed) (old.unfinished ++ piece)
     → Hears role config result old piece fed kept kept
 rest_heard role config result old piece fed count kept one r is there rest =

@@ -16,7 +16,7 @@ use Rattle.amqp_model.specs.Laws.HeardLaws.{HeardFollows, HeardStays, HearsAlike
 use Rattle.amqp_model.specs.Laws.OctetLaws.{CompletesFrame, EndpointStandsFor, Follows, IsWhole, waits, greets, takes, faults, tells, differs, refuses}
 use Rattle.amqp_model.specs.Laws.StreamingLaws.{FeedsAlike}
 use Rattle.amqp_model.specs.Lent.Alike.{AlikeEndpoints, AlikeFeedings, OutcomeTelling, NothingYet, Failing, outcome_telling}
-use Rattle.amqp_model.specs.Stream.Endpoint.{Endpoint, Feeding, Outcome, Unfinished, Finished, Found, after_feed, awaits_opening, greeting, owed_at_fault}
+use Rattle.amqp_model.specs.Stream.Endpoint.{Endpoint, Feeding, Outcome, Unfinished, Finished, Found, after_feed, awaits_opening, owed_at_start, owed_at_fault}
 use Rattle.amqp_model.specs.Stream.Grown.{Grows}
 use Rattle.amqp_model.specs.Stream.Octets.{opening_written}
 use Rattle.amqp_model.specs.Wire.Frame.{Frame}
@@ -127,11 +127,11 @@ hears_on role config old history fed written piece new before after follows stay
   keeps = keeps_same role config before after history (by.waits outcome) kept;
 }
 hears_on role config old history fed written piece new before after follows stays taking stands kept by (greets awaits empty outcome then) =
-    let later = then_put (map frame_of (greeting role config)) history in
+    let later = then_put (map frame_of (owed_at_start role config)) history in
     record {
       after = later;
       stands = inl then;
-      keeps = keeps_same role config before after later (by.greets awaits) (stays role config history (map frame_of (greeting role config)) before kept);
+      keeps = keeps_same role config before after later (by.greets awaits) (stays role config history (map frame_of (owed_at_start role config)) before kept);
     }
 hears_on role config old history fed written piece new before after follows stays taking stands kept by (takes frame phase completes goes outcome then) =
     let later = then_taken config old.end frame history in
@@ -174,8 +174,8 @@ pub keeps_grown : (role : Role) (config : Config role) (old : Endpoint) (history
 keeps_grown role config old history _ piece new before kept follows stays taking stands had by (Grows.waits outcome) =
     keeps_same role config before kept history (by.waits outcome) had
 keeps_grown role config old history _ piece new before kept follows stays taking stands had by (Grows.greets awaits empty outcome) =
-    keeps_same role config before kept (then_put (map frame_of (greeting role config)) history) (by.greets awaits)
-    (stays role config history (map frame_of (greeting role config)) before had)
+    keeps_same role config before kept (then_put (map frame_of (owed_at_start role config)) history) (by.greets awaits)
+    (stays role config history (map frame_of (owed_at_start role config)) before had)
 keeps_grown role config old history _ piece new before kept follows stays taking stands had by (Grows.takes frame phase completes goes outcome) =
     keeps_same role config (heard_after (hears config old.end frame) before) kept (then_taken config old.end frame history)
     (by.takes frame phase completes (ap is_found outcome)) (follows role config old.end history frame before stands had)

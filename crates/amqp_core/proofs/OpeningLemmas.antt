@@ -4,7 +4,7 @@ use Rattle.std.proofs.Math.Seq.{take-add}
 use Rattle.std.proofs.lemmas.List.{length-drop, get_or-drop, take_all}
 use Rattle.std.proofs.lemmas.Bool.{false≢true}
 use Rattle.amqp_model.specs.End.Channels.{Channel, Phase, Handshake, Running, Closing, Closed, Failed, AwaitsProtocolHeader, AwaitsStart, AwaitsStartOk, AwaitsTune, AwaitsTuneOk, AwaitsOpen, AwaitsOpenOk, HoldsStart, HoldsLogin, HoldsOpen, Agreed}
-use Rattle.amqp_model.specs.Stream.Endpoint.{awaits_opening, greeting}
+use Rattle.amqp_model.specs.Stream.Endpoint.{awaits_opening, owed_at_start}
 use Rattle.amqp_model.specs.End.Machine.{end_after_owed}
 use Rattle.amqp_model.specs.History.Negotiation.{Config, Hello, OfServer, PROTOCOL_HEADER}
 use Rattle.amqp_model.specs.Wire.Notes.{Role, Client, Server}
@@ -31,10 +31,10 @@ nothing_agreed Server (code.Failed agreed) e = absurd (false≢true e)
 
 started : (frame_max channel_max max_body heartbeat : ℕ) (gated : Bool) (hello : Hello Server) (agreed : Option Agreed) (channels : ℕ → Channel) →
     let config : Config Server = record { frame_max = frame_max; channel_max = channel_max; max_body = max_body; heartbeat = heartbeat; gated = gated; hello = hello } in
-    end_after_owed Server config (greeting Server config) (record { phase = Handshake AwaitsProtocolHeader; agreed = agreed; channels = channels }) ≡ record { phase = Handshake AwaitsStartOk; agreed = agreed; channels = channels }
+    end_after_owed Server config (owed_at_start Server config) (record { phase = Handshake AwaitsProtocolHeader; agreed = agreed; channels = channels }) ≡ record { phase = Handshake AwaitsStartOk; agreed = agreed; channels = channels }
 started frame_max channel_max max_body heartbeat gated (OfServer properties mechanisms locales) agreed channels = refl
 
-greeted : (role : Role) (config : Config role) (phase : Phase) (agreed : Option Agreed) (channels : ℕ → Channel) → awaits_opening role phase ≡ true → end_after_owed role config (greeting role config) (record { phase = phase; agreed = agreed; channels = channels }) ≡ record { phase = Handshake AwaitsStartOk; agreed = agreed; channels = channels }
+greeted : (role : Role) (config : Config role) (phase : Phase) (agreed : Option Agreed) (channels : ℕ → Channel) → awaits_opening role phase ≡ true → end_after_owed role config (owed_at_start role config) (record { phase = phase; agreed = agreed; channels = channels }) ≡ record { phase = Handshake AwaitsStartOk; agreed = agreed; channels = channels }
 greeted Client config phase agreed channels e = absurd (false≢true e)
 greeted Server config (Handshake AwaitsProtocolHeader) agreed channels e = started config.frame_max config.channel_max config.max_body config.heartbeat config.gated config.hello agreed channels
 greeted Server config (Handshake AwaitsStart) agreed channels e = absurd (false≢true e)
@@ -52,7 +52,7 @@ greeted Server config Closed agreed channels e = absurd (false≢true e)
 greeted Server config Failed agreed channels e = absurd (false≢true e)
 
 -- it awaits start-ok next
-pub greets : (role : Role) (config : Config role) (stage : Stage) (channels : ℕ → Channel) → awaits_opening role (phase_at stage) ≡ true → end_after_owed role config (greeting role config) (record { phase = phase_at stage; agreed = agreed_at stage; channels = channels }) ≡ record { phase = Handshake AwaitsStartOk; agreed = None; channels = channels }
+pub greets : (role : Role) (config : Config role) (stage : Stage) (channels : ℕ → Channel) → awaits_opening role (phase_at stage) ≡ true → end_after_owed role config (owed_at_start role config) (record { phase = phase_at stage; agreed = agreed_at stage; channels = channels }) ≡ record { phase = Handshake AwaitsStartOk; agreed = None; channels = channels }
 greets role config stage channels e =
     rw (nothing_agreed role stage e) (greeted role config (phase_at stage) None channels e)
 

@@ -9,7 +9,7 @@ use Rattle.amqp_method.specs.Methods.{row}
 use Rattle.amqp_method.specs.declared.kinds.Kind.TheVariants as kinds
 use Rattle.amqp_method.proofs.KindLemmas.{kind_with-own}
 use Rattle.amqp_model.specs.End.Answers as answers
-use Rattle.amqp_model.specs.End.Answers.{channel_state, first_of}
+use Rattle.amqp_model.specs.End.Answers.{channel_state, first_request}
 use Rattle.amqp_model.specs.Laws.AnswersInWords.{GatheredIsUnderWay, NoneIsGathered, StateIsOfNotes, taken_on}
 use Rattle.amqp_model.specs.End.Asks.{channel_max}
 use Rattle.amqp_model.specs.End.Channels as channels
@@ -104,7 +104,7 @@ pending_is role config endpoint history fed written count stands e = record {
 
 under_way : (role : Role) (config : Config role) (failed : Bool) (end : End) (history : History) (number count : ℕ)
     → Reads role end history → ((n : ℕ) (life : Life) (since : List Payload) → GatheredIsUnderWay role config end history n life since)
-    → StandsFor role config failed end history → count ≡ answers.gathered end number
+    → StandsFor role config failed end history → count ≡ answers.octets_gathered end number
     → phase_counted role failed history ≡ Running → IsOpenBy role failed history number → (since : List Payload) → UnderWay (taken_on number history) since → count ≡ length (body_octets since)
 under_way role config true end history number count reads law stands e running there since way = absurd (false≢true there.goes_on)
 under_way role config false end history zero count reads law stands e running there since way = absurd (omega (arith, there.above))
@@ -114,7 +114,7 @@ under_way role config false end history (suc n) count reads law stands e running
 
 none_kept : (role : Role) (config : Config role) (failed : Bool) (end : End) (history : History) (number count : ℕ)
     → Reads role end history → ((n : ℕ) (life : Life) → NoneIsGathered role config end history n life)
-    → StandsFor role config failed end history → count ≡ answers.gathered end number
+    → StandsFor role config failed end history → count ≡ answers.octets_gathered end number
     → phase_counted role failed history ≡ Running → IsOpenBy role failed history number → Gathers (taken_on number history) Nothing → count ≡ 0
 none_kept role config true end history number count reads law stands e running there none = absurd (false≢true there.goes_on)
 none_kept role config false end history zero count reads law stands e running there none = absurd (omega (arith, there.above))
@@ -125,7 +125,7 @@ none_kept role config false end history (suc n) count reads law stands e running
 pub gathered_is : (role : Role) (config : Config role) (failed : Bool) (end : End) (history : History) (number count : ℕ)
     → AnswersOfHistory role config failed end history number → Reads role end history
     → ((n : ℕ) (life : Life) (since : List Payload) → GatheredIsUnderWay role config end history n life since) → ((n : ℕ) (life : Life) → NoneIsGathered role config end history n life)
-    → StandsFor role config failed end history → count ≡ answers.gathered end number → GatheredIs role config failed history number count
+    → StandsFor role config failed end history → count ≡ answers.octets_gathered end number → GatheredIs role config failed history number count
 gathered_is role config failed end history number count law reads way none stands e = record {
   counted = e ∙ (law stands).octets;
   under_way = under_way role config failed end history number count reads way stands e;
@@ -137,7 +137,7 @@ gathered_is role config failed end history number count law reads way none stand
 first_there : (role : Role) (config : Config role) (failed : Bool) (end : End) (history : History) (number : ℕ) (request : Option MethodKind)
     → Reads role end history → ((n : ℕ) (life : Life) → DueIsFirst role config end history n life) → WritesReadBack role config → Lawful role config failed history
     → StandsFor role config failed end history → request ≡ answers.reply_due end number
-    → IsOpenBy role failed history number → request ≡ first_of (unanswered_at role number (life_here role number history) history)
+    → IsOpenBy role failed history number → request ≡ first_request (unanswered_at role number (life_here role number history) history)
 first_there role config true end history number request reads law writes lawful stands e there = absurd (false≢true there.goes_on)
 first_there role config false end history zero request reads law writes lawful stands e there = absurd (omega (arith, there.above))
 first_there role config false end history (suc n) request reads law writes lawful stands e there =

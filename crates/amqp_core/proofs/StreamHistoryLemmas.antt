@@ -2,7 +2,7 @@
 -- itself: by the end that gathers, to which it is alike.
 use Rattle.std.proofs.Common.{◌≡◌, ◌≤◌, ◌<◌, Bool, true, false, ℕ, List, ◌++◌, length, take, get_or, Result, Ok, Err, OnOk, refl, ap, sym, ◌∙◌, subst}
 use Rattle.std.proofs.Math.Logic.{∥∥₁_map}
-use Rattle.amqp_model.specs.End.Answers.{gathered, kept_by, kept_in}
+use Rattle.amqp_model.specs.End.Answers.{octets_gathered, kept_by, kept_in}
 use Rattle.amqp_model.specs.End.Asks.{Ask, Puts, ask_verdict, frames_asked, refused_or_put}
 use Rattle.amqp_model.specs.End.Channels as channels
 use Rattle.amqp_model.specs.End.Channels.{Channel, End, Phase, Handshake, Running, Closed, Failed, Free, Opening, Closing}
@@ -142,6 +142,6 @@ in_phase channels.Phase.Closing one other law a = refl
 in_phase Closed one other law a = refl
 in_phase Failed one other law a = refl
 
-pub gathered_alike : (one other : End) (number : ℕ) → CameIsKept → AlikeEnds one other → gathered other number ≡ gathered one number
+pub gathered_alike : (one other : End) (number : ℕ) → CameIsKept → AlikeEnds one other → octets_gathered other number ≡ octets_gathered one number
 gathered_alike one other number law a =
     sym (in_phase one.phase (one.channels number) (other.channels number) law (a.channels number) ∙ ap (λ p. length (kept_in p (other.channels number))) a.phase)

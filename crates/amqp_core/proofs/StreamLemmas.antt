@@ -27,7 +27,7 @@ use Rattle.amqp_model.specs.History.Negotiation.{Config, frame_limit}
 use Rattle.amqp_model.specs.Laws.OctetLaws.{OneIsSaid, IsWhole, event_of_frame, nothing_taken}
 use Rattle.amqp_model.specs.Lent.Alike.{AlikeChannels, AlikeEndpoints, AlikeEnds, LentEvent, Other, lent, maybe_telling}
 use Rattle.amqp_model.specs.Lent.Streaming.{Streaming, NoContent, AwaitsHeader, AwaitsBody, streamed}
-use Rattle.amqp_model.specs.Stream.Endpoint.{Endpoint, Feeding, Outcome, Unfinished, Finished, Found, Begun, Whole, after_feed, after_judged, awaits_opening, goes_on_with, outcome_of}
+use Rattle.amqp_model.specs.Stream.Endpoint.{Endpoint, Feeding, Outcome, Unfinished, Finished, Found, Begun, Whole, after_feed, after_judged, awaits_opening, holds_octets, outcome_of}
 use Rattle.amqp_model.specs.Stream.Pieces.{FeedGivesFrame, FeedHolds, HoldsUnfinished, IsFedBy, reads_frames, with_taken}
 use Rattle.amqp_model.specs.Wire.Frame.{Frame}
 use Rattle.amqp_model.specs.Wire.Gathering.{Gathering, Nothing, HeaderDue, BodyDue}
@@ -201,7 +201,7 @@ lends_of_frame role config old piece fed count frame event one r is whole event_
 
 pub lends_of_rest : (role : Role) (config : Config role) (old : Endpoint) (piece : List ℕ) (fed : Feeding) (count : ℕ)
     → OneIsSaid → reads_frames role old.end.phase ≡ true
-    → fed ≡ with_taken count (goes_on_with old (old.unfinished ++ piece)) → old.unfinished ++ piece ≡ old.unfinished ++ take count piece
+    → fed ≡ with_taken count (holds_octets old (old.unfinished ++ piece)) → old.unfinished ++ piece ≡ old.unfinished ++ take count piece
     → IsRest (frame_limit old.end.agreed) (old.unfinished ++ piece) → LendsOf role config old piece fed None
 lends_of_rest role config old piece fed count one r is there rest =
     let begun : IsRest (frame_limit old.end.agreed) (old.unfinished ++ take count piece) = subst (λ xs. IsRest (frame_limit old.end.agreed) xs) there rest in

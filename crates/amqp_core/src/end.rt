@@ -7,7 +7,7 @@ ghost use Rattle.amqp_method.specs.Kinds.{has_content};
 ghost use Rattle.amqp_method.specs.MessageView.{message_view};
 ghost use Rattle.amqp_method.specs.MethodView.{method_view};
 ghost use Rattle.amqp_model.specs.Output.ArrangementRules.{FollowsRules};
-ghost use Rattle.amqp_model.specs.End.Answers.{channel_state, gathered, reply_due};
+ghost use Rattle.amqp_model.specs.End.Answers.{channel_state, octets_gathered, reply_due};
 ghost use Rattle.amqp_model.specs.End.Asks as asks;
 ghost use Rattle.amqp_model.specs.End.Closes.{cause_of, no_cause};
 ghost use Rattle.amqp_model.specs.End.Asks.{refusal};
@@ -421,7 +421,7 @@ impl<R: Role> End<R> {
 
     /// How many octets are kept of the body of a content that isn't whole yet, in phase Running on an Open channel.
     pub fn gathered(&self, channel: u16) -> usize
-        ensures gathered { result ≡ gathered (endpoint_of self.now).end channel }
+        ensures gathered { result ≡ octets_gathered (endpoint_of self.now).end channel }
         ensures most { result ≤ (config_at self.now).max_body }
         ensures history { GatheredOfHistory self.now channel result }
     {

@@ -15,7 +15,7 @@ ghost use Rattle.amqp_core.specs.Traced.NotedAsks.{count_asked, notes_asked};
 ghost use Rattle.amqp_core.specs.Asks.View.{lent_view};
 ghost use Rattle.amqp_core.specs.Traced.CountsLives.{CountsLives};
 ghost use Rattle.amqp_core.specs.Traced.Notes.{item_there, note_view, noted_as, word_view};
-ghost use Rattle.amqp_core.specs.Traced.Noting.{lives_in, notes_owed, said_by_owed, told_by};
+ghost use Rattle.amqp_core.specs.Traced.Noting.{lives_in, notes_owed, said_by_owed, note_tells};
 ghost use Rattle.amqp_core.specs.Traced.Noting.{word_of_reply as reply_word};
 
 use crate::account::Account;
@@ -98,12 +98,12 @@ fn word_of_reply(reply: Reply) -> Word
 }
 
 impl Ledger {
-    ghost use Rattle.amqp_core.specs.Traced.LedgerView.{GivesBack, HasRoom, notes_in, said_in, told_in};
+    ghost use Rattle.amqp_core.specs.Traced.LedgerView.{GivesBack, HasRoom, notes_in, tells_in, told_in};
 
     pub(crate) fn new(alloc: Global, side: Side) -> Ledger
         ensures notes { notes_in result ≡ [] }
         ensures told { told_in result ≡ [] }
-        ensures said { said_in result ≡ [] }
+        ensures said { tells_in result ≡ [] }
         ensures fed { result.fed.items ≡ [] }
         ensures written { result.written.items ≡ [] }
         ensures side { result.side ≡ side }
@@ -132,7 +132,7 @@ impl Ledger {
         ensures kept { vec_capacity self.old.written ≤ vec_capacity self.new.written }
         ensures notes_same { notes_in self.new ≡ notes_in self.old }
         ensures told_same { told_in self.new ≡ told_in self.old }
-        ensures said_same { said_in self.new ≡ said_in self.old }
+        ensures said_same { tells_in self.new ≡ tells_in self.old }
         ensures fed_same { self.new.fed.items ≡ self.old.fed.items }
         ensures written_same { self.new.written.items ≡ self.old.written.items }
         ensures side { self.new.side ≡ self.old.side }
@@ -218,7 +218,7 @@ impl Ledger {
     /// An item is said, if there is one.
     fn say(&mut self, channel: u16, item: Option<Item>)
         requires room { vec_len self.old.said < vec_capacity self.old.said }
-        ensures said { said_in self.new ≡ said_in self.old ++ telling_at channel (lives_in (role_of self.old.side)
+        ensures said { tells_in self.new ≡ tells_in self.old ++ telling_at channel (lives_in (role_of self.old.side)
             (notes_in self.old) channel) (item_there item) }
         ensures notes_same { self.new.notes ≡ self.old.notes }
         ensures lives_same { self.new.lives ≡ self.old.lives }
@@ -246,7 +246,7 @@ impl Ledger {
         requires room { HasRoom self.old (count_asked place.frame_max (lent_view ask)) 0 }
         ensures notes { notes_in self.new ≡ notes_in self.old ++ notes_asked place.frame_max place.channel
             (lent_view ask.entry) }
-        ensures said { said_in self.new ≡ said_in self.old ++ telling_at place.channel
+        ensures said { tells_in self.new ≡ tells_in self.old ++ telling_at place.channel
             (lives_in (role_of self.old.side) (notes_in self.old) place.channel) (item_there item) }
         ensures told_same { self.new.told ≡ self.old.told }
         ensures fed_same { self.new.fed ≡ self.old.fed }
@@ -304,7 +304,7 @@ impl Ledger {
     /// A flow-ok is said in the life that its channel has then.
     fn say_flow_ok(&mut self, channel: u16, active: bool)
         requires room { vec_len self.old.said < vec_capacity self.old.said }
-        ensures said { said_in self.new ≡ said_in self.old ++ telling_above channel (lives_in (role_of self.old.side)
+        ensures said { tells_in self.new ≡ tells_in self.old ++ telling_above channel (lives_in (role_of self.old.side)
             (notes_in self.old) channel) (Some (FlowOkItem active)) }
         ensures notes_same { self.new.notes ≡ self.old.notes }
         ensures lives_same { self.new.lives ≡ self.old.lives }
@@ -330,7 +330,7 @@ impl Ledger {
     /// What is said by what an end owes: a flow-ok.
     fn say_owed(&mut self, owed: Owed)
         requires room { vec_len self.old.said < vec_capacity self.old.said }
-        ensures said { said_in self.new ≡ said_in self.old
+        ensures said { tells_in self.new ≡ tells_in self.old
             ++ said_by_owed (lives_in (role_of self.old.side) (notes_in self.old)) owed }
         ensures notes_same { self.new.notes ≡ self.old.notes }
         ensures lives_same { self.new.lives ≡ self.old.lives }
@@ -376,9 +376,9 @@ impl Ledger {
         ensures notes { notes_in self.new ≡ notes_in self.old ++ (option_to_list (note_there account.now.took)
             ++ notes_owed (role_of self.old.side) account.now.owed) }
         ensures told { told_in self.new ≡ told_in self.old
-            ++ told_by (lives_in (role_of self.old.side) (notes_in self.old)) (note_there account.now.took)
+            ++ note_tells (lives_in (role_of self.old.side) (notes_in self.old)) (note_there account.now.took)
             (item_there item) }
-        ensures said { said_in self.new ≡ said_in self.old
+        ensures said { tells_in self.new ≡ tells_in self.old
             ++ said_by_owed (lives_in (role_of self.old.side) (notes_in self.old
             ++ option_to_list (note_there account.now.took))) account.now.owed }
         ensures fed { self.new.fed.items ≡ self.old.fed.items ++ octets.now }

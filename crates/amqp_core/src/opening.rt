@@ -2,7 +2,7 @@
 ghost use Rattle.std.specs.Prelude.{◌≡◌, ◌≢◌, ◌+◌, ◌<◌, ◌≤◌, ◌++◌, true, [], length, map, take, slice_index, OnOk};
 ghost use Rattle.std.specs.Prelude.{OnErr};
 ghost use Rattle.amqp_model.specs.End.Closes.{frame_of};
-ghost use Rattle.amqp_model.specs.Stream.Endpoint.{awaits_opening, greeting};
+ghost use Rattle.amqp_model.specs.Stream.Endpoint.{awaits_opening, owed_at_start};
 ghost use Rattle.amqp_model.specs.End.Machine.{as_failed, end_after_owed};
 ghost use Rattle.amqp_model.specs.History.Negotiation.{PROTOCOL_HEADER as HEADER};
 ghost use Rattle.amqp_model.specs.Output.Outputs.{after_puts};
@@ -54,11 +54,11 @@ impl Connection {
         requires awaited { awaits_opening (role_for self.old.settings) (connection_end self.old).phase ≡ true }
         requires staged { outbox.old.staged ≡ [] }
         ensures end { OnOk result (connection_end self.new ≡ end_after_owed (role_for self.old.settings)
-            (config_view self.old.settings) (greeting (role_for self.old.settings) (config_view self.old.settings))
+            (config_view self.old.settings) (owed_at_start (role_for self.old.settings) (config_view self.old.settings))
             (connection_end self.old)) }
         ensures output { OnOk result (outbox.new
-            ≡ only (after_puts (map frame_of (greeting (role_for self.old.settings) (config_view self.old.settings)))
-            outbox.old.output)) }
+            ≡ only (after_puts (map frame_of
+            (owed_at_start (role_for self.old.settings) (config_view self.old.settings))) outbox.old.output)) }
         ensures failed { OnErr result (connection_end self.new ≡ as_failed (connection_end self.old)) }
         ensures same { OnErr result (outbox.new ≡ only outbox.old.output) }
         ensures settings { self.new.settings ≡ self.old.settings }

@@ -1,6 +1,6 @@
 //! What an end answers of itself: where it stands, the states of its channels, and how much it keeps of them.
 ghost use Rattle.std.specs.Prelude.{◌≡◌};
-ghost use Rattle.amqp_model.specs.End.Answers.{channel_state, gathered, reply_due};
+ghost use Rattle.amqp_model.specs.End.Answers.{channel_state, octets_gathered, reply_due};
 ghost use Rattle.amqp_model.specs.End.Asks.{channel_max};
 ghost use Rattle.amqp_channel.specs.Events.EventView.{state_view};
 ghost use Rattle.amqp_core.specs.Connection.View.{connection_end};
@@ -37,7 +37,7 @@ impl Connection {
     }
 
     pub(crate) fn gathered(&self, number: u16) -> usize
-        ensures { result ≡ gathered (connection_end self.now) number }
+        ensures { result ≡ octets_gathered (connection_end self.now) number }
     {
         let Stage::Running(_) = self.stage else {
             return 0;

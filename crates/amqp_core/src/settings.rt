@@ -13,7 +13,7 @@ ghost use Rattle.amqp_model.specs.History.Negotiation as negotiation;
 ghost use Rattle.amqp_core.specs.Asks.Controlled.{refusal_by};
 ghost use Rattle.amqp_core.specs.Connection.Decisions.{Decides};
 ghost use Rattle.amqp_core.specs.Faults.Numbers.{config_fault_view, refusal_view};
-ghost use Rattle.amqp_core.specs.Connection.HandshakeMethods.{IsStartLength, greeting_length, said_by, start_ok_octets};
+ghost use Rattle.amqp_core.specs.Connection.HandshakeMethods.{IsStartLength, greeting_length, start_ok_with, start_ok_octets};
 ghost use Rattle.amqp_core.specs.Config.Settings.{client_hello_view, server_hello_view, hello_view, side_in};
 
 use crate::faults::{AskFault, ConfigFault, OutOfMemory};
@@ -110,9 +110,9 @@ impl ClientHello {
         locale: &ShortStr,
     ) -> Result<(), AskFault>
         ensures short { OnOk result (nat_lt negotiation.FRAME_MIN
-            (frame_length (method_frame 0 (said_by self.now mechanism.now response.now locale.now))) ≡ false) }
+            (frame_length (method_frame 0 (start_ok_with self.now mechanism.now response.now locale.now))) ≡ false) }
         ensures refused { IfErr result (λ fault. refusal_view fault
-            ≡ refusal_by (puts_short (method_frame 0 (said_by self.now mechanism.now response.now locale.now)))) }
+            ≡ refusal_by (puts_short (method_frame 0 (start_ok_with self.now mechanism.now response.now locale.now)))) }
     {
         if FRAME_MIN < start_ok_length(&self.properties, mechanism, response, locale) {
             return Err(AskFault::TooLarge);
@@ -129,11 +129,11 @@ impl ClientHello {
         response: &[u8],
         locale: &ShortStr,
     ) -> Result<Method, AskFault>
-        ensures ok { IfOk result (λ m. method_view m ≡ said_by self.now mechanism.now response.now locale.now) }
+        ensures ok { IfOk result (λ m. method_view m ≡ start_ok_with self.now mechanism.now response.now locale.now) }
         ensures short { OnOk result (nat_lt negotiation.FRAME_MIN
-            (frame_length (method_frame 0 (said_by self.now mechanism.now response.now locale.now))) ≡ false) }
+            (frame_length (method_frame 0 (start_ok_with self.now mechanism.now response.now locale.now))) ≡ false) }
         ensures refused { IfErr result (λ fault. refusal_view fault
-            ≡ refusal_by (puts_short (method_frame 0 (said_by self.now mechanism.now response.now locale.now)))) }
+            ≡ refusal_by (puts_short (method_frame 0 (start_ok_with self.now mechanism.now response.now locale.now)))) }
     {
         self.allow_answer(mechanism, response, locale)?;
         let method = start_ok(alloc, &self.properties, mechanism, response, locale)?;

@@ -7,7 +7,7 @@ ghost use Rattle.amqp_method.specs.Kinds.{has_content};
 ghost use Rattle.amqp_method.specs.MessageView.{message_view};
 ghost use Rattle.amqp_method.specs.MethodView.{method_view};
 ghost use Rattle.amqp_model.specs.Output.ArrangementRules.{FollowsRules};
-ghost use Rattle.amqp_model.specs.End.Answers.{channel_state, gathered, reply_due};
+ghost use Rattle.amqp_model.specs.End.Answers.{channel_state, octets_gathered, reply_due};
 ghost use Rattle.amqp_model.specs.End.Asks as asks;
 ghost use Rattle.amqp_model.specs.End.Closes.{cause_of, no_cause};
 ghost use Rattle.amqp_model.specs.End.Bounds.{OthersAreFree};
@@ -221,7 +221,7 @@ impl<R: Role> StreamEnd<R> {
     /// How many octets have come of the body of a content that isn't whole yet, in phase Running on an Open channel.
     /// They were told, and are not kept.
     pub fn came(&self, channel: u16) -> usize
-        ensures came { result ≡ gathered (endpoint_of self.now).end channel }
+        ensures came { result ≡ octets_gathered (endpoint_of self.now).end channel }
         ensures most { result ≤ (config_at self.now).max_body }
         ensures history { CameOfHistory self.now channel result }
     {

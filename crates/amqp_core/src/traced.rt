@@ -4,7 +4,7 @@ ghost use Rattle.std.specs.Prelude.{IfOk, MatchOption, None, Some};
 ghost use Rattle.std.specs.Option.{option_copied};
 ghost use Rattle.amqp_model.specs.Output.ArrangementRules.{FollowsRules};
 ghost use Rattle.amqp_model.specs.End.Amounts.{GathersOctets, KeepsOctets};
-ghost use Rattle.amqp_model.specs.End.Answers.{channel_state, gathered, reply_due};
+ghost use Rattle.amqp_model.specs.End.Answers.{channel_state, octets_gathered, reply_due};
 ghost use Rattle.amqp_method.specs.HeaderView.{properties_view};
 ghost use Rattle.amqp_method.specs.Kinds.{has_content};
 ghost use Rattle.amqp_method.specs.MethodView.{method_view};
@@ -343,7 +343,7 @@ impl<R: Role> Traced<R> {
 
     /// How many octets are kept of the body of a content that isn't whole yet, in phase Running on an Open channel.
     pub fn gathered(&self, channel: u16) -> usize
-        ensures gathered { result ≡ gathered (traced_of self.now).endpoint.end channel }
+        ensures gathered { result ≡ octets_gathered (traced_of self.now).endpoint.end channel }
         ensures most { result ≤ (config_at self.now).max_body }
         ensures history { GatheredOfHistory self.now channel result }
     {

@@ -91,7 +91,7 @@ taken_to OutOfMemory old piece = 0
 taken_to Failed old piece = old.taken_to_fault
 
 -- after a fault nothing is pending, and the place of the first fault stays
-abbrev pub after_fault : Stream → (piece : List ℕ) → FrameFault → Stream
+abbrev after_fault : Stream → (piece : List ℕ) → FrameFault → Stream
 after_fault old piece fault =
     record old { pending = []; fault = Some fault.at; taken_to_fault = taken_to fault.kind old piece; given = None }
 

@@ -42,7 +42,7 @@ pub record ReadsThen (room : ℕ) (role : Role) (config : Config role) (result :
   pub then_fed : FeedsThose role config result (with_octets octets between) new
 
 -- A fault in feeding: either in feeding what was kept, and nothing is read, or in feeding what was read after.
-abbrev pub StopsPulling : (room : ℕ) → (role : Role) → Config role → IoFault → (old new : Intake)
+abbrev StopsPulling : (room : ℕ) → (role : Role) → Config role → IoFault → (old new : Intake)
     → (to_give left : Known) → Type 0
 StopsPulling room role config fault old new to_give left =
     (StopsFeeding role config fault old new × (left ≡ to_give))

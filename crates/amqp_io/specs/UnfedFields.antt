@@ -6,7 +6,7 @@ use Rattle.amqp_io.specs.declared.unfed.Room.TheVariants.{Own, Given}
 use Rattle.amqp_io.specs.declared.unfed.Unfed.TheInside.{Inside}
 
 -- the octets of the room, whether read or not
-abbrev pub octets_in : Room → List ℕ
+abbrev octets_in : Room → List ℕ
 octets_in (Own octets) = octets
 octets_in (Given octets) = octets.items
 

@@ -8,7 +8,7 @@ use Rattle.amqp_core.specs.Faults.Answering.{is_out_of_memory}
 use Rattle.amqp_core.specs.declared.taken.Taken.{Taken}
 use Rattle.amqp_core.specs.declared.faults.CoreFault.{CoreFault}
 use Rattle.amqp_core.specs.declared.faults.CoreFault.TheVariants as core
-use Rattle.amqp_link.specs.JoinLaws.{Laws}
+use Rattle.amqp_link.specs.JoinLaws.{BothJoinLaws}
 use Rattle.amqp_link.specs.Joined.{IsJoinedTo}
 use Rattle.amqp_link.specs.SeatSteps.{FedBy, HandsOver, RunsOut, SideWrote, piece_of, to_write}
 use Rattle.amqp_link.specs.Seats.{Seated}
@@ -51,7 +51,7 @@ memory-or core.Closed never = absurd (never refl)
 ⊥-prop : (one other : ⊥) → one ≡ other
 ⊥-prop one other = absurd one
 
-pub runs-out : (role : Role) (octets : ℕ) (fault : CoreFault) (out : List ℕ) (writer reader reader_after : Seated) → Laws → out ≡ to_write writer → All IsOctet (take octets out) → 0 < octets → octets ≤ length (to_write writer)
+pub runs-out : (role : Role) (octets : ℕ) (fault : CoreFault) (out : List ℕ) (writer reader reader_after : Seated) → BothJoinLaws → out ≡ to_write writer → All IsOctet (take octets out) → 0 < octets → octets ≤ length (to_write writer)
     → ∥ IsJoinedTo role reader writer ∥₁ → reader.dropped ≡ false → reader_after.dropped ≡ true → FedBy reader.set_up (take octets out) (Err fault) reader reader_after
     → RunsOut octets writer reader writer reader_after
 runs-out role octets fault out writer reader reader_after laws e all many enough joined there dropped fed =

@@ -31,7 +31,7 @@ use Rattle.amqp_core.specs.Traced.Tracing.{IsTraceOf, Kept, SameLists, TraceGrow
 use Rattle.amqp_core.specs.declared.taken.Taken.{Taken}
 use Rattle.amqp_core.specs.declared.faults.CoreFault.{CoreFault}
 use Rattle.amqp_core.specs.declared.faults.CoreFault.TheVariants as core
-use Rattle.amqp_link.specs.JoinLaws.{JoinLaws, Laws}
+use Rattle.amqp_link.specs.JoinLaws.{JoinLaws, BothJoinLaws}
 use Rattle.amqp_link.specs.Joined.{AreJoined, IsJoinedTo, StandsAt}
 use Rattle.amqp_link.specs.SeatSteps.{AcceptsBy, AcceptsControlBy, Answer, FedBy, HandsOver, IsNew, SideAccepts, SideAcceptsControl, SideAnswers, SideAsked, SideControlled, SideDropped, SideDrops, SideFed, WroteBy, feeding_of, piece_of, refusal_at, to_write, verdict_by}
 use Rattle.amqp_link.specs.Seats.{Seated}
@@ -174,7 +174,7 @@ joined-out role client_config server_config octets theirs mine new j dropped rea
     })
 
 -- so much was handed over
-pub handed : (role : Role) (octets count : ℕ) (writer reader writer_after reader_after : Seated) → Laws → All IsOctet (piece_of octets writer) → 0 < octets → octets ≤ length (to_write writer)
+pub handed : (role : Role) (octets count : ℕ) (writer reader writer_after reader_after : Seated) → BothJoinLaws → All IsOctet (piece_of octets writer) → 0 < octets → octets ≤ length (to_write writer)
     → IsJoinedTo role reader writer → HandsOver octets count writer reader writer_after reader_after → ∥ IsJoinedTo role reader_after writer_after ∥₁
 handed role octets count writer reader writer_after reader_after laws are_octets many within j hands =
     let cc = j.client_config in
@@ -214,7 +214,7 @@ no-report outcome core.OutOfMemory none memory reports = true≢false memory
 no-report outcome core.Failed none memory reports = none _ reports
 no-report outcome core.Closed none memory reports = none _ reports
 
-pub no-fault : (role : Role) (octets : ℕ) (writer reader : Seated) (fault : CoreFault) (new : Endpoint) → Laws → All IsOctet (piece_of octets writer) → 0 < octets → octets ≤ length (to_write writer) → reader.dropped ≡ false
+pub no-fault : (role : Role) (octets : ℕ) (writer reader : Seated) (fault : CoreFault) (new : Endpoint) → BothJoinLaws → All IsOctet (piece_of octets writer) → 0 < octets → octets ≤ length (to_write writer) → reader.dropped ≡ false
     → IsJoinedTo role reader writer → IsFed (Err fault) reader.kept.endpoint (feeding_of reader.set_up (piece_of octets writer) reader) new → is_out_of_memory fault ≡ false → ⊥
 no-fault role octets writer reader fault new laws are_octets many within there j fed memory =
     let cc = j.client_config in

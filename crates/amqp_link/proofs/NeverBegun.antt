@@ -2,7 +2,7 @@
 use Rattle.std.proofs.Common.{◌≡◌, ◌⊎◌, inl, inr, Bool, true, false, cond, ◌&&◌, ◌==◌, ℕ, zero, suc, ◌<◌, ◌≤◌, List, [], ◌∷◌, ◌++◌, length, map, Some, slice_get, refl, sym, ap, ◌∙◌, subst, arith}
 use Rattle.std.proofs.lemmas.Bool.{ne_eqb}
 use Rattle.std.proofs.lemmas.Option.{none-some}
-use Rattle.amqp_model.specs.Pair.Carried.{At, NoteInLife, life_of, messages, puts, takes}
+use Rattle.amqp_model.specs.Pair.Carried.{At, NoteInLife, life_noted, messages, puts, takes}
 use Rattle.amqp_model.specs.Laws.EndLaws.{notes_on}
 use Rattle.amqp_model.specs.Wire.Frame.{Frame}
 use Rattle.amqp_model.specs.History.Histories.{History}
@@ -17,13 +17,13 @@ use Rattle.amqp_model.specs.Pair.Sent.{items_in, items_sent}
 -- no entry is of a life above this one
 abbrev pub Below : ℕ → List NoteInLife → Type 0
 Below most [] = Unit {0}
-Below most (entry ∷ later) = (life_of entry ≤ most) × Below most later
+Below most (entry ∷ later) = (life_noted entry ≤ most) × Below most later
 
 below-more : (few many : ℕ) (entries : List NoteInLife) → few ≤ many → Below few entries → Below many entries
 below-more few many [] fewer below = tt {0}
 below-more few many (entry ∷ later) fewer below = (omega (arith, fewer, below.0), below-more few many later fewer below.1)
 
-below-push : (most : ℕ) (entries : List NoteInLife) (entry : NoteInLife) → Below most entries → life_of entry ≤ most → Below most (entries ++ entry ∷ [])
+below-push : (most : ℕ) (entries : List NoteInLife) (entry : NoteInLife) → Below most entries → life_noted entry ≤ most → Below most (entries ++ entry ∷ [])
 below-push most [] entry below last = (last, tt {0})
 below-push most (first ∷ later) entry below last = (below.0, below-push most later entry below.1 last)
 
@@ -58,13 +58,13 @@ nothing-sent role n life history above =
 
 -- The lives that a server counts are at most those that its client counts.
 
-at-end : (entries : List NoteInLife) (entry : NoteInLife) → slice_get (map life_of (entries ++ entry ∷ [])) (length entries) ≡ Some (life_of entry)
+at-end : (entries : List NoteInLife) (entry : NoteInLife) → slice_get (map life_noted (entries ++ entry ∷ [])) (length entries) ≡ Some (life_noted entry)
 at-end [] entry = refl
 at-end (first ∷ later) entry = at-end later entry
 
-read-below : (most : ℕ) (entries : List NoteInLife) (i life : ℕ) → Below most entries → slice_get (map life_of entries) i ≡ Some life → life ≤ most
+read-below : (most : ℕ) (entries : List NoteInLife) (i life : ℕ) → Below most entries → slice_get (map life_noted entries) i ≡ Some life → life ≤ most
 read-below most [] i life below found = absurd (none-some life found)
-read-below most (entry ∷ later) zero life below found = let same : life_of entry ≡ life = cc in omega (arith, below.0, same)
+read-below most (entry ∷ later) zero life below found = let same : life_noted entry ≡ life = cc in omega (arith, below.0, same)
 read-below most (entry ∷ later) (suc i) life below found = read-below most later i life below.1 found
 
 server-puts : (kind : Kind) (frame : Frame) (before : List Note) → lives Server (channel.Put kind frame ∷ before) ≡ lives Server before
@@ -78,7 +78,7 @@ server-puts (channel.Other begins_content) frame before = refl
 
 -- a server that has counted a life has taken a note of its last one
 abbrev LastTaken : List Note → ℕ → Type 0
-LastTaken notes last = (last ≡ 0) ⊎ ((i : ℕ) × (slice_get (map life_of (takes Server notes)) i ≡ Some last))
+LastTaken notes last = (last ≡ 0) ⊎ ((i : ℕ) × (slice_get (map life_noted (takes Server notes)) i ≡ Some last))
 
 last-taken : (notes : List Note) → LastTaken notes (lives Server notes)
 last-taken [] = inl refl

@@ -27,7 +27,7 @@ use Rattle.amqp_link.specs.Headline.{Headline, KeepsPromises}
 use Rattle.amqp_link.specs.Items.{begun_at, said_at, told_at}
 use Rattle.amqp_link.specs.Joined.{AreJoined, IsJoinedTo, StandsAt}
 use Rattle.amqp_link.specs.LinkView.{link_view}
-use Rattle.amqp_link.specs.PromiseLaws.{EndPromiseLaws, Laws, PromiseLaws}
+use Rattle.amqp_link.specs.PromiseLaws.{EndPromiseLaws, AllPromiseLaws, PromiseLaws}
 use Rattle.amqp_link.specs.Promises.{KeepsOn, Promises, StaysWhole, acted_and_waiting}
 use Rattle.amqp_link.specs.SeatSteps.{to_write}
 use Rattle.amqp_link.specs.Seats.{Joint, Seated}
@@ -54,7 +54,7 @@ record Reading (role : Role) (client_config : Config Client) (server_config : Co
   theirs_first : (n : ℕ) → NoItemsBeforeFirstLife (other_end role) (suc n) theirs
 
 -- the items that the machine takes from frames are those that they encode
-are-items : Laws → (frames : List Frame) (items : List Item) → items ≡ items_in frames → AreItemsOf frames items
+are-items : AllPromiseLaws → (frames : List Frame) (items : List Item) → items ≡ items_in frames → AreItemsOf frames items
 are-items laws frames items is = record {
   encoded = (laws.encoded (reverse (map payload_in frames)) items).0 (sym is);
   only = λ others encoded. sym ((laws.encoded (reverse (map payload_in frames)) others).1 encoded) ∙ sym is;
@@ -69,7 +69,7 @@ carries role client_config server_config reader writer mine theirs r there = rec
   put_is = refl;
 }
 
-keeps-on : (role : Role) (client_config : Config Client) (server_config : Config Server) (reader writer : Seated) (mine theirs : History) → Laws → Reading role client_config server_config reader writer mine theirs → (n : ℕ) → KeepsOn role reader writer mine theirs n
+keeps-on : (role : Role) (client_config : Config Client) (server_config : Config Server) (reader writer : Seated) (mine theirs : History) → AllPromiseLaws → Reading role client_config server_config reader writer mine theirs → (n : ℕ) → KeepsOn role reader writer mine theirs n
 keeps-on role client_config server_config reader writer mine theirs laws r n = record {
   acted_is = acted_is;
   sent_is = sent_is;
@@ -106,7 +106,7 @@ stays-whole role client_config server_config reader writer mine theirs r = recor
       (carries role client_config server_config reader writer mine theirs r there) ((r.mine_stands.stands there).stands.phase ∙ closed);
 }
 
-keeps : (client_config : Config Client) (server_config : Config Server) (client server : Seated) → Laws → AreJoined Client client_config server_config client server → Promises client_config server_config client server
+keeps : (client_config : Config Client) (server_config : Config Server) (client server : Seated) → AllPromiseLaws → AreJoined Client client_config server_config client server → Promises client_config server_config client server
 keeps client_config server_config client server laws j = record {
   client_history = j.my_history;
   server_history = j.their_history;
@@ -168,7 +168,7 @@ keeps client_config server_config client server laws j = record {
       theirs_first = client_first;
     }
 
-kept : (joint : Joint) → Laws → IsJoinedTo Client joint.client joint.server → KeepsPromises joint
+kept : (joint : Joint) → AllPromiseLaws → IsJoinedTo Client joint.client joint.server → KeepsPromises joint
 kept joint laws j = record {
   client_config = j.client_config;
   server_config = j.server_config;
@@ -194,14 +194,14 @@ on-zero role config seated history life laws stands = ap (λ l. items_of 0 life 
 says-nothing : (role : Role) (config : Config role) (seated : Seated) (history : History) (life : ℕ) → EndPromiseLaws role config → StandsAt role config seated history → items_of 0 life seated.kept.said ≡ []
 says-nothing role config seated history life laws stands = ap (λ l. items_of 0 life l) stands.trace.said ∙ (laws.channel_0 history life).1
 
-in-life : (direction : Direction) (joint : Joint) (channel life : ℕ) → Laws → KeepsPromises joint
+in-life : (direction : Direction) (joint : Joint) (channel life : ℕ) → AllPromiseLaws → KeepsPromises joint
     → IsPrefixOf (items_of channel life (told_at direction (Some joint))) (items_of channel life (said_at direction (Some joint)))
 in-life directions.ToServer joint zero life laws k = nothing-first (items_of 0 life joint.server.kept.told) (items_of 0 life joint.client.kept.said) (on-zero Server k.server_config joint.server k.promises.server_history life (laws.ends Server k.server_config) k.promises.server_stands)
 in-life directions.ToClient joint zero life laws k = nothing-first (items_of 0 life joint.client.kept.told) (items_of 0 life joint.server.kept.said) (on-zero Client k.client_config joint.client k.promises.client_history life (laws.ends Client k.client_config) k.promises.client_stands)
 in-life directions.ToServer joint (suc n) life laws k = written Server joint.server joint.client k.promises.server_history k.promises.client_history n life (k.promises.to_server n)
 in-life directions.ToClient joint (suc n) life laws k = written Client joint.client joint.server k.promises.client_history k.promises.server_history n life (k.promises.to_client n)
 
-prefix-at : (direction : Direction) (there : Option Joint) (channel life : ℕ) → Laws → ((joint : Joint) → there ≡ Some joint → ∥ KeepsPromises joint ∥₁)
+prefix-at : (direction : Direction) (there : Option Joint) (channel life : ℕ) → AllPromiseLaws → ((joint : Joint) → there ≡ Some joint → ∥ KeepsPromises joint ∥₁)
     → ∥ IsPrefixOf (items_of channel life (told_at direction there)) (items_of channel life (said_at direction there)) ∥₁
 prefix-at direction None channel life laws each = ∣ nothing-first [] [] refl ∣₁
 prefix-at direction (Some joint) channel life laws each = ∥∥₁_map (each joint refl) (λ k. in-life direction joint channel life laws k)
@@ -212,7 +212,7 @@ abbrev NothingOf : (channel life : ℕ) → (direction : Direction) → Option J
 NothingOf channel life direction there =
     (items_of channel life (said_at direction there) ≡ []) × (items_of channel life (told_at direction there) ≡ [])
 
-on-channel-zero : (direction : Direction) (joint : Joint) (life : ℕ) → Laws → KeepsPromises joint → NothingOf 0 life direction (Some joint)
+on-channel-zero : (direction : Direction) (joint : Joint) (life : ℕ) → AllPromiseLaws → KeepsPromises joint → NothingOf 0 life direction (Some joint)
 on-channel-zero directions.ToServer joint life laws k = (
   says-nothing Client k.client_config joint.client k.promises.client_history life (laws.ends Client k.client_config) k.promises.client_stands,
   on-zero Server k.server_config joint.server k.promises.server_history life (laws.ends Server k.server_config) k.promises.server_stands,
@@ -222,7 +222,7 @@ on-channel-zero directions.ToClient joint life laws k = (
   on-zero Client k.client_config joint.client k.promises.client_history life (laws.ends Client k.client_config) k.promises.client_stands,
 )
 
-in-life-zero : (direction : Direction) (joint : Joint) (channel : ℕ) → Laws → KeepsPromises joint → NothingOf channel 0 direction (Some joint)
+in-life-zero : (direction : Direction) (joint : Joint) (channel : ℕ) → AllPromiseLaws → KeepsPromises joint → NothingOf channel 0 direction (Some joint)
 in-life-zero direction joint zero laws k = on-channel-zero direction joint 0 laws k
 in-life-zero directions.ToServer joint (suc n) laws k = let first = (k.promises.to_server n).before_first in (first.1, first.0)
 in-life-zero directions.ToClient joint (suc n) laws k = let first = (k.promises.to_client n).before_first in (first.1, first.0)
@@ -257,7 +257,7 @@ past-begun direction joint n life k above = go direction
 abbrev BegunAt : (channel life : ℕ) → Option Joint → Type 0
 BegunAt channel life there = (0 < channel) × (0 < life) × (life ≤ begun_at channel there)
 
-in-no-life : (direction : Direction) (joint : Joint) (channel life : ℕ) → Laws → (BegunAt channel life (Some joint) → ⊥) → KeepsPromises joint → NothingOf channel life direction (Some joint)
+in-no-life : (direction : Direction) (joint : Joint) (channel life : ℕ) → AllPromiseLaws → (BegunAt channel life (Some joint) → ⊥) → KeepsPromises joint → NothingOf channel life direction (Some joint)
 in-no-life direction joint zero life laws unbegun k = on-channel-zero direction joint life laws k
 in-no-life direction joint (suc n) zero laws unbegun k = in-life-zero direction joint (suc n) laws k
 in-no-life direction joint (suc n) (suc m) laws unbegun k = go (cases_lt (begun_on (suc n) joint.client.kept.notes) (suc m))
@@ -272,7 +272,7 @@ empty-of A one other t both =
     let lengths : (length one ≡ 0) × (length other ≡ 0) = ∥∥₁_elim t (hlevel props) (λ a. (ap length (both a).0, ap length (both a).1)) in
     (nil_from_length one lengths.0, nil_from_length other lengths.1)
 
-nothing-at : (direction : Direction) (there : Option Joint) (channel life : ℕ) → Laws → (BegunAt channel life there → ⊥) → ((joint : Joint) → there ≡ Some joint → ∥ KeepsPromises joint ∥₁)
+nothing-at : (direction : Direction) (there : Option Joint) (channel life : ℕ) → AllPromiseLaws → (BegunAt channel life there → ⊥) → ((joint : Joint) → there ≡ Some joint → ∥ KeepsPromises joint ∥₁)
     → NothingOf channel life direction there
 nothing-at direction None channel life laws unbegun each = (refl, refl)
 nothing-at direction (Some joint) channel life laws unbegun each =
@@ -287,16 +287,16 @@ some-is one other e = ap (λ o. the one o) e
     the default None = default
     the default (Some joint) = joint
 
-at : (connection : Option Connection) (joint : Joint) → Laws → option_map connection_view connection ≡ Some joint → ∥ KeepsPromises joint ∥₁
+at : (connection : Option Connection) (joint : Joint) → AllPromiseLaws → option_map connection_view connection ≡ Some joint → ∥ KeepsPromises joint ∥₁
 at None joint laws e = absurd (none-some joint e)
 at (Some connection) joint laws e =
     subst (λ j. ∥ KeepsPromises j ∥₁) (some-is (connection_view connection) joint e) (∥∥₁_map connection.joined (λ j. kept (connection_view connection) laws j))
 
-each : (connections : List Connection) → Laws → (index : ℕ) (joint : Joint) → slice_get (map connection_view connections) index ≡ Some joint → ∥ KeepsPromises joint ∥₁
+each : (connections : List Connection) → AllPromiseLaws → (index : ℕ) (joint : Joint) → slice_get (map connection_view connections) index ≡ Some joint → ∥ KeepsPromises joint ∥₁
 each connections laws index joint found = at (slice_get connections index) joint laws (sym (slice_get-map connection_view connections index) ∙ found)
 
 -- The headline holds of every link.
-pub headline : (link : Link) → Laws → Headline (link_view link)
+pub headline : (link : Link) → AllPromiseLaws → Headline (link_view link)
 headline link laws = record {
   prefix = λ life direction. prefix-at direction (slice_get (map connection_view link.connections.items) life.connection) life.channel life.number laws
       (λ joint found. each link.connections.items laws life.connection joint found);

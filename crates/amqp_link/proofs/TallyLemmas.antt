@@ -10,11 +10,11 @@ use Rattle.amqp_model.specs.Wire.Notes.{Client, Kind, Note}
 use Rattle.amqp_model.specs.Wire.Readings.{Reading, reading, kind_of}
 use Rattle.amqp_model.specs.Stream.Traces as traces
 use Rattle.amqp_model.specs.Stream.Traces.{IsPut, IsTaken, Word, noted, trace, word_of}
-use Rattle.amqp_link.specs.Tallies.{is_open, begins_on, begun_on}
+use Rattle.amqp_link.specs.Tallies.{is_open_word, begins_on, begun_on}
 use Rattle.amqp_link.proofs.TallyCounts.{begun-push}
 
 -- a frame that the client puts begins a life if it is an open
-put-one : (kind : Kind) (frame : Frame) (before : List Note) → lives Client (channel.Put kind frame ∷ before) ≡ lives Client before + cond (is_open (word_of kind)) 1 0
+put-one : (kind : Kind) (frame : Frame) (before : List Note) → lives Client (channel.Put kind frame ∷ before) ≡ lives Client before + cond (is_open_word (word_of kind)) 1 0
 put-one channel.Open frame before = omega arith
 put-one channel.OpenOk frame before = omega arith
 put-one channel.Close frame before = omega arith
@@ -36,7 +36,7 @@ took-one (channel.Other begins_content) frame before = refl
 -- the same of what its channel and the others see of it
 put-seen : (here leaves : Bool) (says : Reading) (frame : Frame) (entries : List ChannelEntry)
     → lives Client (notes (cond here (PutHere says frame ∷ []) (cond leaves (LeftHere ∷ []) []) ++ entries))
-    ≡ lives Client (notes entries) + cond (here && is_open (word_of (kind_of says))) 1 0
+    ≡ lives Client (notes entries) + cond (here && is_open_word (word_of (kind_of says))) 1 0
 put-seen true leaves says frame entries = put-one (kind_of says) frame (notes entries)
 put-seen false true says frame entries = omega arith
 put-seen false false says frame entries = omega arith
@@ -53,13 +53,13 @@ and-turned false true = refl
 and-turned false false = refl
 
 -- on a channel above 0 the note of a frame has the word that the frame calls
-noted-opens : (on_zero here : Bool) (word : Word) → (here ≡ true → on_zero ≡ false) → (is_open (cond on_zero traces.Other word) && here) ≡ (here && is_open word)
+noted-opens : (on_zero here : Bool) (word : Word) → (here ≡ true → on_zero ≡ false) → (is_open_word (cond on_zero traces.Other word) && here) ≡ (here && is_open_word word)
 noted-opens true true word apart = absurd (true≢false (apart refl))
-noted-opens false true word apart = and-turned (is_open word) true
-noted-opens true false word apart = and-turned (is_open traces.Other) false
-noted-opens false false word apart = and-turned (is_open word) false
+noted-opens false true word apart = and-turned (is_open_word word) true
+noted-opens true false word apart = and-turned (is_open_word traces.Other) false
+noted-opens false false word apart = and-turned (is_open_word word) false
 
-put-begins : (n : ℕ) (frame : Frame) → begins_on (suc n) (noted IsPut frame) ≡ ((frame.channel == suc n) && is_open (word_of (kind_of (reading frame))))
+put-begins : (n : ℕ) (frame : Frame) → begins_on (suc n) (noted IsPut frame) ≡ ((frame.channel == suc n) && is_open_word (word_of (kind_of (reading frame))))
 put-begins n frame =
     noted-opens (frame.channel == 0) (frame.channel == suc n) (word_of (kind_of (reading frame)))
     (λ here. ne_eqb frame.channel 0 (λ none. let same = eqb-true frame.channel (suc n) here in omega arith))

@@ -43,7 +43,7 @@ pub record HasBegun (link : Linked) (life : Life) : Type 0 where
   pub most : life.number ≤ begun_at life.channel (slice_get link.connections life.connection)
 
 -- how many octets the end that writes has to write
-abbrev pub waiting_at : Direction → Option Joint → ℕ
+abbrev waiting_at : Direction → Option Joint → ℕ
 waiting_at direction None = 0
 waiting_at direction (Some joint) = length (to_write (writer_in direction joint))
 

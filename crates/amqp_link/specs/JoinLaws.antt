@@ -42,6 +42,6 @@ pub record JoinLaws (role : Role) (client_config : Config Client) (server_config
       (config_of role client_config server_config) endpoint piece
 
 -- for either
-abbrev pub Laws : Type 0
-Laws = (role : Role) (client_config : Config Client) (server_config : Config Server)
+abbrev pub BothJoinLaws : Type 0
+BothJoinLaws = (role : Role) (client_config : Config Client) (server_config : Config Server)
     → JoinLaws role client_config server_config

@@ -92,7 +92,7 @@ RunsTo old all (Err index) new = StopsAt index old all new
 -- Setting up.
 
 -- why an end can't be set up so, if it can't
-abbrev pub fault_in : (set_up : (role : Role) × Config role) → Option model.ConfigFault
+abbrev fault_in : (set_up : (role : Role) × Config role) → Option model.ConfigFault
 fault_in set_up = config_fault set_up.0 set_up.1
 
 -- an end can be set up so

@@ -49,7 +49,7 @@ pub record EndPromiseLaws (role : Role) (config : Config role) : Type 0 where
   pub not_yet : (end : End) (history : History) → StandingHasNotFailed role config end history
 
 -- all of them
-pub record Laws : Type 0 where
+pub record AllPromiseLaws : Type 0 where
   pub encoded : (taken : List Payload) (items : List Item) → ItemsAreEncoded taken items
   pub pairs : (role : Role) (client_config : Config Client) (server_config : Config Server)
       → PromiseLaws role client_config server_config

@@ -201,7 +201,7 @@ pub record CarriesSome (octets : ℕ) (writer reader writer_after reader_after :
   pub runs_out : RunsOut (octets - carried) writer_then reader_then writer_after reader_after
 
 -- nothing of either side has changed
-abbrev pub BothSame : (writer reader writer_after reader_after : Seated) → Type 0
+abbrev BothSame : (writer reader writer_after reader_after : Seated) → Type 0
 BothSame writer reader writer_after reader_after = (writer_after ≡ writer) × (reader_after ≡ reader)
 
 -- What carrying so many octets makes of both sides, by the answer. Where it is refused, the reader was dropped, or

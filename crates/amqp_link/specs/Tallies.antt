@@ -8,17 +8,17 @@ use Rattle.std.specs.List.{range_with_len}
 use Rattle.amqp_model.specs.Pair.Sent.{Telling, items_of}
 use Rattle.amqp_model.specs.Stream.Traces.{Noted, Direction, IsPut, IsTaken, Word, Open}
 
-abbrev pub is_put : Direction → Bool
+abbrev is_put : Direction → Bool
 is_put IsPut = true
 is_put IsTaken = false
 
-abbrev pub is_open : Word → Bool
-is_open Open = true
-is_open word = false
+abbrev pub is_open_word : Word → Bool
+is_open_word Open = true
+is_open_word word = false
 
 -- the note of an open that was put: a life begins, as a client notes it
 abbrev pub begins : Noted → Bool
-begins note = is_put note.direction && is_open note.word
+begins note = is_put note.direction && is_open_word note.word
 
 -- a life of this channel begins
 abbrev pub begins_on : (channel : ℕ) → Noted → Bool

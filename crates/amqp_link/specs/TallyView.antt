@@ -30,7 +30,7 @@ tallies_by connection channel lives client_said server_told server_said client_t
     (slice_index server_said (life - 1)) (slice_index client_told (life - 1)))
     (numbers_to lives)
 
-abbrev pub is_to_server : Direction → Bool
+abbrev is_to_server : Direction → Bool
 is_to_server ToServer = true
 is_to_server ToClient = false
 

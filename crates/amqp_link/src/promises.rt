@@ -1,11 +1,11 @@
 //! The laws that carry what a link promises, gathered.
-ghost use Rattle.amqp_link.specs.PromiseLaws.{Laws};
+ghost use Rattle.amqp_link.specs.PromiseLaws.{AllPromiseLaws};
 
 use amqp_core::laws::{agreement, contents, fitting, one_end, replies, two_ends};
 
 /// Whatever two joined ends have done, they keep what they promise: each of these laws is one of the definitions.
 pub(crate) fn promises_are_kept()
-    ensures { Laws }
+    ensures { AllPromiseLaws }
 {
     agreement::ends_agree_on_lives();
     agreement::nothing_waits_for_closed();

@@ -7,7 +7,7 @@ ghost use Rattle.amqp_core.specs.Config.Configs.{set_up_as, settings_of};
 ghost use Rattle.amqp_core.specs.Traced.Notes.{note_view, telling_view};
 ghost use Rattle.amqp_core.specs.Traced.Controls.{ControlledTrace};
 ghost use Rattle.amqp_link.specs.ControlView.{control_view};
-ghost use Rattle.amqp_link.specs.JoinLaws.{Laws};
+ghost use Rattle.amqp_link.specs.JoinLaws.{BothJoinLaws};
 ghost use Rattle.amqp_link.specs.Joined.{IsJoinedTo};
 ghost use Rattle.amqp_link.specs.SeatSteps.{HandsOverOr, IsNew, SideAsked, SideControlled, SideDropped, SidesCarry, to_write};
 ghost use Rattle.amqp_link.specs.SeatView.{seat_view};
@@ -29,7 +29,7 @@ pub(crate) struct Seat<R: Role> {
 
 /// The laws by which two sides stay joined as octets are carried.
 fn sides_stay_joined()
-    ensures { Laws }
+    ensures { BothJoinLaws }
 {
     agreement::no_fault_over_octets();
     arrangement::output_follows();

@@ -7,11 +7,11 @@ use Rattle.amqp_value.proofs.Numbers.{IsBytes}
 use Rattle.amqp_value.specs.Fields.{EncodesNumber}
 use Rattle.amqp_method.specs.Arguments.{Argument, bit, octet, short, long, long_long, short_string, long_string, table, kind_of, keep, kept}
 use Rattle.amqp_method.specs.Methods.{FieldRow}
-use Rattle.amqp_method.specs.Reading.{Read, Bits, no_bits, number_at, short_string_at, long_string_at, field_table_at, bit_at, ends_run, field_at, args_at}
+use Rattle.amqp_method.specs.Reading.{Read, Bits, no_bits, read_number, short_string_at, long_string_at, field_table_at, read_bit, ends_run, field_at, args_at}
 use Rattle.amqp_method.specs.Encoding.{EncodesArgument, one, parts_of, EncodesParts}
 use Rattle.amqp_method.specs.declared.fields.FieldKind.{FieldKind}
 use Rattle.amqp_method.specs.declared.fields.FieldKind.TheVariants.{Bit, Octet, Short, Long, LongLong, ShortStr, LongStr, Table}
-use Rattle.amqp_method.proofs.FieldLemmas.{same_ok, Takes, number_at-takes, number_at-again, short_string_at-takes, short_string_at-again, long_string_at-takes, long_string_at-again, field_table_at-takes, field_table_at-again}
+use Rattle.amqp_method.proofs.FieldLemmas.{same_ok, Takes, read_number-takes, read_number-again, short_string_at-takes, short_string_at-again, long_string_at-takes, long_string_at-again, field_table_at-takes, field_table_at-again}
 use Rattle.amqp_method.proofs.RunLemmas.{EncodesOn, on_parts, off_parts, on_bit, off_bit, on_octet, off_octet}
 
 -- an octet is the encoding of its number
@@ -52,11 +52,11 @@ takes_run kind bits octets make read x kind_is alone takes e =
     let b = bind_ok read _ x e in
     subst (TakesStep kind bits octets) (same_ok _ _ b.2) (record { takes = takes_one kind bits octets (make b.0.0) b.0.1 (kind_is b.0.0) (alone b.0.0) (takes b.0 b.1) })
 
-takes_bit : (left packed end : ℕ) (octets : List ℕ) (x : (Argument × Bits) × List ℕ) → IsBytes octets → bit_at left packed end octets ≡ Ok x
+takes_bit : (left packed end : ℕ) (octets : List ℕ) (x : (Argument × Bits) × List ℕ) → IsBytes octets → read_bit left packed end octets ≡ Ok x
     → TakesStep Bit (record { left = left; packed = packed }) octets x
 takes_bit zero packed end octets x fits e =
-    let b = bind_ok (number_at 1 end octets) _ x e in
-    let takes = number_at-takes 1 end octets b.0 fits b.1 in
+    let b = bind_ok (read_number 1 end octets) _ x e in
+    let takes = read_number-takes 1 end octets b.0 fits b.1 in
     let n = b.0.0 in
     let below : n < 256 = omega (arith, takes.encodes.fits) in
     let alone : takes.prefix ≡ n ∷ [] = takes.encodes.octets_are ∙ sym (octet_of n below) in
@@ -81,10 +81,10 @@ pub field_at-takes : (kind : FieldKind) (bits : Bits) (end : ℕ) (octets : List
     → TakesStep kind bits octets x
 unfolding field_at
 field_at-takes Bit bits end octets x fits e = takes_bit bits.left bits.packed end octets x fits e
-field_at-takes Octet bits end octets x fits e = takes_run Octet bits octets octet (number_at 1 end octets) x (λ v. refl) (λ v values. refl) (λ y. number_at-takes 1 end octets y fits) e
-field_at-takes Short bits end octets x fits e = takes_run Short bits octets short (number_at 2 end octets) x (λ v. refl) (λ v values. refl) (λ y. number_at-takes 2 end octets y fits) e
-field_at-takes Long bits end octets x fits e = takes_run Long bits octets long (number_at 4 end octets) x (λ v. refl) (λ v values. refl) (λ y. number_at-takes 4 end octets y fits) e
-field_at-takes LongLong bits end octets x fits e = takes_run LongLong bits octets long_long (number_at 8 end octets) x (λ v. refl) (λ v values. refl) (λ y. number_at-takes 8 end octets y fits) e
+field_at-takes Octet bits end octets x fits e = takes_run Octet bits octets octet (read_number 1 end octets) x (λ v. refl) (λ v values. refl) (λ y. read_number-takes 1 end octets y fits) e
+field_at-takes Short bits end octets x fits e = takes_run Short bits octets short (read_number 2 end octets) x (λ v. refl) (λ v values. refl) (λ y. read_number-takes 2 end octets y fits) e
+field_at-takes Long bits end octets x fits e = takes_run Long bits octets long (read_number 4 end octets) x (λ v. refl) (λ v values. refl) (λ y. read_number-takes 4 end octets y fits) e
+field_at-takes LongLong bits end octets x fits e = takes_run LongLong bits octets long_long (read_number 8 end octets) x (λ v. refl) (λ v values. refl) (λ y. read_number-takes 8 end octets y fits) e
 field_at-takes ShortStr bits end octets x fits e = takes_run ShortStr bits octets short_string (short_string_at end octets) x (λ v. refl) (λ v values. refl) (λ y. short_string_at-takes end octets y fits) e
 field_at-takes LongStr bits end octets x fits e = takes_run LongStr bits octets long_string (long_string_at end octets) x (λ v. refl) (λ v values. refl) (λ y. long_string_at-takes end octets y fits) e
 field_at-takes Table bits end octets x fits e = takes_run Table bits octets table (field_table_at end octets) x (λ v. refl) (λ v values. refl) (λ y. field_table_at-takes end octets y fits) e
@@ -156,8 +156,8 @@ reads_bit zero packed prefix holds values h =
       rest = o.others;
       reads = λ end after.
           let encoded : EncodesNumber 1 o.first (o.first ∷ []) = record { fits = o.fits; octets_are = octet_of o.first o.fits } in
-          let is = number_at-again 1 end o.first (o.first ∷ []) (o.others ++ after) encoded in
-          ap (λ (p : List ℕ). bit_at zero packed end (p ++ after)) o.octets_are ∙ rw (is, o.bit_is) refl;
+          let is = read_number-again 1 end o.first (o.first ∷ []) (o.others ++ after) encoded in
+          ap (λ (p : List ℕ). read_bit zero packed end (p ++ after)) o.octets_are ∙ rw (is, o.bit_is) refl;
       goes_on = o.goes_on;
     }
 reads_bit (suc left) packed prefix holds values h =
@@ -172,10 +172,10 @@ reads_bit (suc left) packed prefix holds values h =
 pub field_at-again : (value : Argument) (values : List Argument) (bits : Bits) (prefix : List ℕ) → EncodesOn bits.left bits.packed (parts_of (value ∷ values)) prefix → ReadsField bits prefix value values
 unfolding field_at
 field_at-again (bit holds) values bits prefix h = reads_bit bits.left bits.packed prefix holds values h
-field_at-again (octet n) values bits prefix h = reads_one bits prefix (octet n) values (λ end first beyond s. rw (number_at-again 1 end n first beyond s) refl) h
-field_at-again (short n) values bits prefix h = reads_one bits prefix (short n) values (λ end first beyond s. rw (number_at-again 2 end n first beyond s) refl) h
-field_at-again (long n) values bits prefix h = reads_one bits prefix (long n) values (λ end first beyond s. rw (number_at-again 4 end n first beyond s) refl) h
-field_at-again (long_long n) values bits prefix h = reads_one bits prefix (long_long n) values (λ end first beyond s. rw (number_at-again 8 end n first beyond s) refl) h
+field_at-again (octet n) values bits prefix h = reads_one bits prefix (octet n) values (λ end first beyond s. rw (read_number-again 1 end n first beyond s) refl) h
+field_at-again (short n) values bits prefix h = reads_one bits prefix (short n) values (λ end first beyond s. rw (read_number-again 2 end n first beyond s) refl) h
+field_at-again (long n) values bits prefix h = reads_one bits prefix (long n) values (λ end first beyond s. rw (read_number-again 4 end n first beyond s) refl) h
+field_at-again (long_long n) values bits prefix h = reads_one bits prefix (long_long n) values (λ end first beyond s. rw (read_number-again 8 end n first beyond s) refl) h
 field_at-again (short_string t) values bits prefix h = reads_one bits prefix (short_string t) values (λ end first beyond s. rw (short_string_at-again end t first beyond s) refl) h
 field_at-again (long_string t) values bits prefix h = reads_one bits prefix (long_string t) values (λ end first beyond s. rw (long_string_at-again end t first beyond s) refl) h
 field_at-again (table t) values bits prefix h = reads_one bits prefix (table t) values (λ end first beyond s. rw (field_table_at-again end t first beyond s) refl) h
@@ -223,10 +223,10 @@ pub field_alone-takes : (kind : FieldKind) (bits : Bits) (end : ℕ) (octets : L
     → TakesAlone kind octets x
 unfolding field_at
 field_alone-takes Bit bits end octets x own fits e = absurd own
-field_alone-takes Octet bits end octets x own fits e = alone Octet octets octet (number_at 1 end octets) x (λ v. refl) (λ y. number_at-takes 1 end octets y fits) e
-field_alone-takes Short bits end octets x own fits e = alone Short octets short (number_at 2 end octets) x (λ v. refl) (λ y. number_at-takes 2 end octets y fits) e
-field_alone-takes Long bits end octets x own fits e = alone Long octets long (number_at 4 end octets) x (λ v. refl) (λ y. number_at-takes 4 end octets y fits) e
-field_alone-takes LongLong bits end octets x own fits e = alone LongLong octets long_long (number_at 8 end octets) x (λ v. refl) (λ y. number_at-takes 8 end octets y fits) e
+field_alone-takes Octet bits end octets x own fits e = alone Octet octets octet (read_number 1 end octets) x (λ v. refl) (λ y. read_number-takes 1 end octets y fits) e
+field_alone-takes Short bits end octets x own fits e = alone Short octets short (read_number 2 end octets) x (λ v. refl) (λ y. read_number-takes 2 end octets y fits) e
+field_alone-takes Long bits end octets x own fits e = alone Long octets long (read_number 4 end octets) x (λ v. refl) (λ y. read_number-takes 4 end octets y fits) e
+field_alone-takes LongLong bits end octets x own fits e = alone LongLong octets long_long (read_number 8 end octets) x (λ v. refl) (λ y. read_number-takes 8 end octets y fits) e
 field_alone-takes ShortStr bits end octets x own fits e = alone ShortStr octets short_string (short_string_at end octets) x (λ v. refl) (λ y. short_string_at-takes end octets y fits) e
 field_alone-takes LongStr bits end octets x own fits e = alone LongStr octets long_string (long_string_at end octets) x (λ v. refl) (λ y. long_string_at-takes end octets y fits) e
 field_alone-takes Table bits end octets x own fits e = alone Table octets table (field_table_at end octets) x (λ v. refl) (λ y. field_table_at-takes end octets y fits) e
@@ -234,10 +234,10 @@ field_alone-takes Table bits end octets x own fits e = alone Table octets table 
 pub field_alone-again : (value : Argument) (bits : Bits) (end : ℕ) (prefix beyond : List ℕ) → EncodesArgument value prefix → field_at (kind_of value) bits end (prefix ++ beyond) ≡ Ok ((value, no_bits), beyond)
 unfolding field_at
 field_alone-again (bit holds) bits end prefix beyond s = absurd s
-field_alone-again (octet n) bits end prefix beyond s = rw (number_at-again 1 end n prefix beyond s) refl
-field_alone-again (short n) bits end prefix beyond s = rw (number_at-again 2 end n prefix beyond s) refl
-field_alone-again (long n) bits end prefix beyond s = rw (number_at-again 4 end n prefix beyond s) refl
-field_alone-again (long_long n) bits end prefix beyond s = rw (number_at-again 8 end n prefix beyond s) refl
+field_alone-again (octet n) bits end prefix beyond s = rw (read_number-again 1 end n prefix beyond s) refl
+field_alone-again (short n) bits end prefix beyond s = rw (read_number-again 2 end n prefix beyond s) refl
+field_alone-again (long n) bits end prefix beyond s = rw (read_number-again 4 end n prefix beyond s) refl
+field_alone-again (long_long n) bits end prefix beyond s = rw (read_number-again 8 end n prefix beyond s) refl
 field_alone-again (short_string t) bits end prefix beyond s = rw (short_string_at-again end t prefix beyond s) refl
 field_alone-again (long_string t) bits end prefix beyond s = rw (long_string_at-again end t prefix beyond s) refl
 field_alone-again (table t) bits end prefix beyond s = rw (field_table_at-again end t prefix beyond s) refl

@@ -14,7 +14,7 @@ use Rattle.amqp_method.specs.Encoding.{EncodesMethod}
 use Rattle.amqp_method.specs.FirstFault.{FirstFaultOfMethod}
 use Rattle.amqp_method.specs.Kinds.{fields_of}
 use Rattle.amqp_method.specs.Methods.{FieldRow, Row as MethodRow, row}
-use Rattle.amqp_method.specs.Reading.{Read, Equals, Bits, no_bits, number_at, short_string_at, long_string_at, after_table, field_table_at, field_at, next_bit, bit_at, args_at, rest_of, nothing_after, whole, call_at, method_at}
+use Rattle.amqp_method.specs.Reading.{Read, Equals, Bits, no_bits, read_number, short_string_at, long_string_at, after_table, field_table_at, field_at, next_bit, read_bit, args_at, rest_of, nothing_after, whole, call_at, method_at}
 use Rattle.amqp_method.specs.Rows.{field_view, row_view}
 use Rattle.amqp_method.specs.declared.faults.MethodFault.{MethodFault}
 use Rattle.amqp_method.specs.declared.fields.Field.{Field}
@@ -41,17 +41,17 @@ past_new_octet : (read : Read ℕ)
 past_new_octet (Ok x) = refl
 past_new_octet (Err e) = refl
 
-past_bit_same : (left packed end : ℕ) (octets : List ℕ) → past_bit left end octets ≡ left_and_rest (bit_at left packed end octets)
-past_bit_same zero packed end octets = past_new_octet (number_at 1 end octets)
+past_bit_same : (left packed end : ℕ) (octets : List ℕ) → past_bit left end octets ≡ left_and_rest (read_bit left packed end octets)
+past_bit_same zero packed end octets = past_new_octet (read_number 1 end octets)
 past_bit_same (suc left) packed end octets = refl
 
 pub past_field_same : (kind : FieldKind) (bits : Bits) (end : ℕ) (octets : List ℕ) → past_field kind bits.left end octets ≡ left_and_rest (field_at kind bits end octets)
 unfolding past_field field_at
 past_field_same Bit bits end octets = past_bit_same bits.left bits.packed end octets
-past_field_same Octet bits end octets = past_ends_run octet (number_at 1 end octets)
-past_field_same Short bits end octets = past_ends_run short (number_at 2 end octets)
-past_field_same Long bits end octets = past_ends_run long (number_at 4 end octets)
-past_field_same LongLong bits end octets = past_ends_run long_long (number_at 8 end octets)
+past_field_same Octet bits end octets = past_ends_run octet (read_number 1 end octets)
+past_field_same Short bits end octets = past_ends_run short (read_number 2 end octets)
+past_field_same Long bits end octets = past_ends_run long (read_number 4 end octets)
+past_field_same LongLong bits end octets = past_ends_run long_long (read_number 8 end octets)
 past_field_same ShortStr bits end octets = past_ends_run short_string (short_string_at end octets)
 past_field_same LongStr bits end octets = past_ends_run long_string (long_string_at end octets)
 past_field_same Table bits end octets = past_ends_run table (field_table_at end octets)

@@ -4,7 +4,7 @@ use Rattle.byteorder.specs.Endian.{big_bytes}
 use Rattle.amqp_method.specs.Arguments.{Argument, short, nothing, kind_of, keep, kept, wanted_kind, wanted, Fit, Call, Fits}
 use Rattle.amqp_method.specs.Kinds.{fields_of}
 use Rattle.amqp_method.specs.Methods.{FieldRow, row}
-use Rattle.amqp_method.specs.Plain.{plain_values, plain_method, value_for, left_by, complete, CountFits, CountsAllFit}
+use Rattle.amqp_method.specs.Plain.{plain_values, plain_method, value_for, args_left_by, complete, CountFits, CountsAllFit}
 use Rattle.amqp_method.specs.Encoding.{EncodesMethod}
 use Rattle.amqp_method.specs.Writing.{none_gathered, written_values, Fitting, AllFitting}
 use Rattle.amqp_method.specs.declared.fields.FieldKind.{FieldKind}
@@ -35,8 +35,8 @@ nothing-count Table = (omega arith, tt)
 -- what arguments that fit the first field and others are
 record FirstFits (reserved : Bool) (kind : FieldKind) (fields : List FieldRow) (args : List Argument) : Type 0 where
   kind_is : kind_of (value_for reserved kind args) ≡ kind
-  others : Fit fields (left_by reserved args)
-  kept_is : keep reserved (value_for reserved kind args) (left_by reserved args) ≡ args
+  others : Fit fields (args_left_by reserved args)
+  kept_is : keep reserved (value_for reserved kind args) (args_left_by reserved args) ≡ args
 
 first_fits : (reserved : Bool) (kind : FieldKind) (fields : List FieldRow) (args : List Argument) → map kind_of args ≡ wanted_kind reserved kind (wanted fields) → FirstFits reserved kind fields args
 first_fits true kind fields args h = record { kind_is = nothing-kind kind; others = h; kept_is = refl }
@@ -47,7 +47,7 @@ complete-kinds : (fields : List FieldRow) (args : List Argument) → Fit fields 
 complete-kinds [] args h = refl
 complete-kinds (f ∷ fields) args h =
     let first = first_fits f.reserved f.kind fields args h in
-    rw (first.kind_is, complete-kinds fields (left_by f.reserved args) first.others) refl
+    rw (first.kind_is, complete-kinds fields (args_left_by f.reserved args) first.others) refl
 
 no_args : (args : List Argument) → map kind_of args ≡ [] → args ≡ []
 no_args [] h = refl
@@ -57,21 +57,21 @@ complete-kept : (fields : List FieldRow) (args : List Argument) → Fit fields a
 complete-kept [] args h = no_args args h
 complete-kept (f ∷ fields) args h =
     let first = first_fits f.reserved f.kind fields args h in
-    sym first.kept_is ∙ ap (keep f.reserved (value_for f.reserved f.kind args)) (complete-kept fields (left_by f.reserved args) first.others)
+    sym first.kept_is ∙ ap (keep f.reserved (value_for f.reserved f.kind args)) (complete-kept fields (args_left_by f.reserved args) first.others)
 
 value-count : (reserved : Bool) (kind : FieldKind) (args : List Argument) → CountsAllFit args → CountFits (value_for reserved kind args)
 value-count true kind args h = nothing-count kind
 value-count false kind [] h = nothing-count kind
 value-count false kind (value ∷ args) h = h.0
 
-left-counts : (reserved : Bool) (args : List Argument) → CountsAllFit args → CountsAllFit (left_by reserved args)
+left-counts : (reserved : Bool) (args : List Argument) → CountsAllFit args → CountsAllFit (args_left_by reserved args)
 left-counts true args h = h
 left-counts false [] h = tt
 left-counts false (value ∷ args) h = h.1
 
 pub complete-counts : (fields : List FieldRow) (args : List Argument) → CountsAllFit args → CountsAllFit (complete fields args)
 complete-counts [] args h = tt
-complete-counts (f ∷ fields) args h = (value-count f.reserved f.kind args h, complete-counts fields (left_by f.reserved args) (left-counts f.reserved args h))
+complete-counts (f ∷ fields) args h = (value-count f.reserved f.kind args h, complete-counts fields (args_left_by f.reserved args) (left-counts f.reserved args h))
 
 -- the ids and the arguments were written
 pub method_written : (c : Call) (old first second new : List ℕ) (class id : ℕ) (fields : List FieldRow) (args : List Argument)

@@ -12,8 +12,8 @@ use Rattle.amqp_value.specs.Reading.{◌>>=◌, table_at}
 use Rattle.amqp_value.specs.Values.{Pairs}
 use Rattle.amqp_value.specs.declared.fault.ValueFault.{ValueFault}
 use Rattle.amqp_method.specs.Arguments.{Argument, octet, short, long, long_long, short_string, long_string, table}
-use Rattle.amqp_method.specs.FirstFault.{left_by_bit, left_by, PassesShort, Passes, FaultInField, passes, inside}
-use Rattle.amqp_method.specs.Reading.{Read, Bits, ends_at, number_at, short_string_at, long_string_at, after_table, bit_at, ends_run, field_at}
+use Rattle.amqp_method.specs.FirstFault.{left_by_bit, bits_left_by, PassesShort, Passes, FaultInField, passes, inside}
+use Rattle.amqp_method.specs.Reading.{Read, Bits, ends_at, read_number, short_string_at, long_string_at, after_table, read_bit, ends_run, field_at}
 use Rattle.amqp_method.specs.declared.faults.MethodFault.{MethodFault}
 use Rattle.amqp_method.specs.declared.fields.FieldKind.{FieldKind}
 use Rattle.amqp_method.specs.declared.fields.FieldKind.TheVariants.{Bit, Octet, Short, Long, LongLong, ShortStr, LongStr, Table}
@@ -41,15 +41,15 @@ no_err x e h = absurd cc
 
 -- ---- numbers and strings
 
-pub number_at-err : (n end : ℕ) (octets : List ℕ) (e : MethodFault) → number_at n end octets ≡ Err e → (length octets < n) × (e ≡ ends_at end octets)
-number_at-err n end octets e h =
+pub read_number-err : (n end : ℕ) (octets : List ℕ) (e : MethodFault) → read_number n end octets ≡ Err e → (length octets < n) × (e ≡ ends_at end octets)
+read_number-err n end octets e h =
     elim (guard_err (ltb (length octets) n) _ _ e h) [
       | inl g ↦ (ltb-true _ _ g.0, g.1)
       | inr g ↦ no_err _ e g.1
     ]
 
-pub number_at-fails : (n end : ℕ) (octets : List ℕ) → length octets < n → number_at n end octets ≡ Err (ends_at end octets)
-number_at-fails n end octets few = rw (lt-ltb _ _ few) refl
+pub read_number-fails : (n end : ℕ) (octets : List ℕ) → length octets < n → read_number n end octets ≡ Err (ends_at end octets)
+read_number-fails n end octets few = rw (lt-ltb _ _ few) refl
 
 short_string_at-err : (end : ℕ) (octets : List ℕ) (e : MethodFault) → short_string_at end octets ≡ Err e → PassesShort octets × (e ≡ ends_at end octets)
 short_string_at-err end [] e h = (tt, sym (err_is {A = List ℕ × List ℕ} _ e h))
@@ -97,10 +97,10 @@ run_err make read e h =
       | inr b ↦ no_err _ e b.2
     ]
 
-bit_err : (left packed end : ℕ) (octets : List ℕ) (e : MethodFault) → bit_at left packed end octets ≡ Err e → FaultInField Bit left (place end octets) octets e
+bit_err : (left packed end : ℕ) (octets : List ℕ) (e : MethodFault) → read_bit left packed end octets ≡ Err e → FaultInField Bit left (place end octets) octets e
 bit_err zero packed end octets e h =
-    elim (bind_err (number_at 1 end octets) _ e h) [
-      | inl is ↦ (let n = number_at-err 1 end octets e is in passes (refl, n.0) n.1)
+    elim (bind_err (read_number 1 end octets) _ e h) [
+      | inl is ↦ (let n = read_number-err 1 end octets e is in passes (refl, n.0) n.1)
       | inr b ↦ no_err _ e b.2
     ]
 bit_err (suc left) packed end octets e h = no_err _ e h
@@ -114,21 +114,21 @@ pub field_at-err : (kind : FieldKind) (bits : Bits) (end : ℕ) (octets : List �
     → FaultInField kind bits.left (place end octets) octets e
 unfolding field_at
 field_at-err Bit bits end octets e fits h = bit_err bits.left bits.packed end octets e h
-field_at-err Octet bits end octets e fits h = let n = number_at-err 1 end octets e (run_err octet _ e h) in passes n.0 n.1
-field_at-err Short bits end octets e fits h = let n = number_at-err 2 end octets e (run_err short _ e h) in passes n.0 n.1
-field_at-err Long bits end octets e fits h = let n = number_at-err 4 end octets e (run_err long _ e h) in passes n.0 n.1
-field_at-err LongLong bits end octets e fits h = let n = number_at-err 8 end octets e (run_err long_long _ e h) in passes n.0 n.1
+field_at-err Octet bits end octets e fits h = let n = read_number-err 1 end octets e (run_err octet _ e h) in passes n.0 n.1
+field_at-err Short bits end octets e fits h = let n = read_number-err 2 end octets e (run_err short _ e h) in passes n.0 n.1
+field_at-err Long bits end octets e fits h = let n = read_number-err 4 end octets e (run_err long _ e h) in passes n.0 n.1
+field_at-err LongLong bits end octets e fits h = let n = read_number-err 8 end octets e (run_err long_long _ e h) in passes n.0 n.1
 field_at-err ShortStr bits end octets e fits h = let n = short_string_at-err end octets e (run_err short_string _ e h) in passes n.0 n.1
 field_at-err LongStr bits end octets e fits h = let n = long_string_at-err end octets e (run_err long_string _ e h) in passes n.0 n.1
 field_at-err Table bits end octets e fits h = table_err bits.left end octets (table_at octets) e fits refl (run_err table _ e h)
 
 passes_fails : (kind : FieldKind) (bits : Bits) (end : ℕ) (octets : List ℕ) → Passes kind bits.left octets → field_at kind bits end octets ≡ Err (ends_at end octets)
 unfolding field_at
-passes_fails Bit bits end octets p = rw (p.0, number_at-fails 1 end octets p.1) refl
-passes_fails Octet bits end octets p = rw (number_at-fails 1 end octets p) refl
-passes_fails Short bits end octets p = rw (number_at-fails 2 end octets p) refl
-passes_fails Long bits end octets p = rw (number_at-fails 4 end octets p) refl
-passes_fails LongLong bits end octets p = rw (number_at-fails 8 end octets p) refl
+passes_fails Bit bits end octets p = rw (p.0, read_number-fails 1 end octets p.1) refl
+passes_fails Octet bits end octets p = rw (read_number-fails 1 end octets p) refl
+passes_fails Short bits end octets p = rw (read_number-fails 2 end octets p) refl
+passes_fails Long bits end octets p = rw (read_number-fails 4 end octets p) refl
+passes_fails LongLong bits end octets p = rw (read_number-fails 8 end octets p) refl
 passes_fails ShortStr bits end octets p = rw (short_string_at-fails end octets p) refl
 passes_fails LongStr bits end octets p = rw (long_string_at-fails end octets p) refl
 passes_fails Table bits end octets p = absurd p
@@ -146,13 +146,13 @@ run_left make read x h =
     let b = bind_ok read _ x h in
     sym (ap (λ (y : (Argument × Bits) × List ℕ). y.0.1.left) (same_ok _ _ b.2))
 
-bit_left : (left packed end : ℕ) (octets : List ℕ) (x : (Argument × Bits) × List ℕ) → bit_at left packed end octets ≡ Ok x → x.0.1.left ≡ left_by_bit left
+bit_left : (left packed end : ℕ) (octets : List ℕ) (x : (Argument × Bits) × List ℕ) → read_bit left packed end octets ≡ Ok x → x.0.1.left ≡ left_by_bit left
 bit_left zero packed end octets x h =
-    let b = bind_ok (number_at 1 end octets) _ x h in
+    let b = bind_ok (read_number 1 end octets) _ x h in
     sym (ap (λ (y : (Argument × Bits) × List ℕ). y.0.1.left) (same_ok _ _ b.2))
 bit_left (suc left) packed end octets x h = sym (ap (λ (y : (Argument × Bits) × List ℕ). y.0.1.left) (same_ok _ _ h))
 
-pub field_at-left : (kind : FieldKind) (bits : Bits) (end : ℕ) (octets : List ℕ) (x : (Argument × Bits) × List ℕ) → field_at kind bits end octets ≡ Ok x → x.0.1.left ≡ left_by kind bits.left
+pub field_at-left : (kind : FieldKind) (bits : Bits) (end : ℕ) (octets : List ℕ) (x : (Argument × Bits) × List ℕ) → field_at kind bits end octets ≡ Ok x → x.0.1.left ≡ bits_left_by kind bits.left
 unfolding field_at
 field_at-left Bit bits end octets x h = bit_left bits.left bits.packed end octets x h
 field_at-left Octet bits end octets x h = run_left octet _ x h

@@ -14,7 +14,7 @@ use Rattle.amqp_value.specs.Reading.{counted, name_at, table_at}
 use Rattle.amqp_value.specs.Encoding.{EncodesTable}
 use Rattle.amqp_value.specs.Values.{Pairs}
 use Rattle.amqp_value.specs.declared.fault.ValueFault.{ValueFault}
-use Rattle.amqp_method.specs.Reading.{number_at, short_string_at, long_string_at, field_table_at, after_table}
+use Rattle.amqp_method.specs.Reading.{read_number, short_string_at, long_string_at, field_table_at, after_table}
 use Rattle.amqp_method.specs.declared.faults.MethodFault.{MethodFault}
 
 abbrev done : {A : Type 0} → A → Result A MethodFault
@@ -30,8 +30,8 @@ pub record Takes (Encodes : List ℕ → Type 0) (octets after : List ℕ) : Typ
   pub encodes : Encodes prefix
   pub after_fits : IsBytes after
 
-pub number_at-takes : (n end : ℕ) (octets : List ℕ) (x : ℕ × List ℕ) → IsBytes octets → number_at n end octets ≡ Ok x → Takes (EncodesNumber n x.0) octets x.1
-number_at-takes n end octets x fits e =
+pub read_number-takes : (n end : ℕ) (octets : List ℕ) (x : ℕ × List ℕ) → IsBytes octets → read_number n end octets ≡ Ok x → Takes (EncodesNumber n x.0) octets x.1
+read_number-takes n end octets x fits e =
     let g = guard_ok (ltb (length octets) n) _ _ x e in
     let enough : n ≤ length octets = ltb-false _ _ g.0 in
     let prefix_len : length (take n octets) ≡ n = omega (arith, length-take n octets) in
@@ -44,8 +44,8 @@ number_at-takes n end octets x fits e =
       after_fits = IsBytes-drop n octets fits;
     })
 
-pub number_at-again : (n end number : ℕ) (prefix after : List ℕ) → EncodesNumber n number prefix → number_at n end (prefix ++ after) ≡ Ok (number, after)
-number_at-again n end number prefix after encoded =
+pub read_number-again : (n end number : ℕ) (prefix after : List ℕ) → EncodesNumber n number prefix → read_number n end (prefix ++ after) ≡ Ok (number, after)
+read_number-again n end number prefix after encoded =
     let long : length prefix ≡ n = ap length encoded.octets_are ∙ length-bytes_high_first n number in
     let enough : ltb (length (prefix ++ after)) n ≡ false = le-ltb _ _ (omega (arith, length-append prefix after)) in
     rw (enough, number_read n number prefix after encoded, drop_at prefix after n long) refl

@@ -10,7 +10,7 @@ use Rattle.amqp_method.specs.Kinds.{fields_of}
 use Rattle.amqp_method.specs.Fitting.{ScalarFits, DatumFits, ItemsFit, PairsFit, ArgumentFits, ArgumentsFit, PropertiesFit}
 use Rattle.amqp_method.specs.Laws.{MethodIsEncoded, HeaderIsEncoded}
 use Rattle.amqp_method.specs.Methods.{FieldRow, row}
-use Rattle.amqp_method.specs.Plain.{value_for, left_by, complete}
+use Rattle.amqp_method.specs.Plain.{value_for, args_left_by, complete}
 use Rattle.amqp_method.specs.Writing.{Fitting, AllFitting, PresentFitting}
 use Rattle.amqp_method.specs.declared.fields.FieldKind.{FieldKind}
 use Rattle.amqp_method.specs.declared.fields.FieldKind.TheVariants.{Bit, Octet, Short, Long, LongLong, ShortStr, LongStr, Table}
@@ -86,7 +86,7 @@ value-fits true kind args fit = nothing-fits kind
 value-fits false kind [] fit = nothing-fits kind
 value-fits false kind (value ∷ args) fit = fit.0
 
-left-fit : (reserved : Bool) (args : List Argument) → ArgumentsFit args → ArgumentsFit (left_by reserved args)
+left-fit : (reserved : Bool) (args : List Argument) → ArgumentsFit args → ArgumentsFit (args_left_by reserved args)
 left-fit true args fit = fit
 left-fit false [] fit = tt
 left-fit false (value ∷ args) fit = fit.1
@@ -94,7 +94,7 @@ left-fit false (value ∷ args) fit = fit.1
 complete-fitting : (fields : List FieldRow) (args : List Argument) → ArgumentsFit args → AllFitting (complete fields args)
 complete-fitting [] args fit = tt
 complete-fitting (f ∷ fields) args fit =
-    (argument-fitting (value_for f.reserved f.kind args) (value-fits f.reserved f.kind args fit), complete-fitting fields (left_by f.reserved args) (left-fit f.reserved args fit))
+    (argument-fitting (value_for f.reserved f.kind args) (value-fits f.reserved f.kind args fit), complete-fitting fields (args_left_by f.reserved args) (left-fit f.reserved args fit))
 
 present-fitting : (properties : List (Option Argument)) → PropertiesFit properties → PresentFitting properties
 present-fitting [] fit = tt

@@ -13,13 +13,13 @@ use Rattle.amqp_method.specs.Faults.{out_of_memory}
 use Rattle.amqp_method.specs.FirstFault.{FaultInField, BeginFlagged, EncodesPrefix, FirstFaultOfHeader, header_class_ends, not_basic, weight_ends, bad_weight, size_ends, flags_end, bad_flags, in_property, header_trailing}
 use Rattle.amqp_method.specs.HeaderReading.{has_flag, optional_at, properties_at, flagged_at, weighed_at, classed_at, header_at}
 use Rattle.amqp_method.specs.Properties.{ContentHeader, header, property_kinds, flags_of, EncodesPresent}
-use Rattle.amqp_method.specs.Reading.{Gives, Read, no_bits, number_at, field_at}
+use Rattle.amqp_method.specs.Reading.{Gives, Read, no_bits, read_number, field_at}
 use Rattle.amqp_method.specs.declared.faults.MethodFault.{MethodFault}
 use Rattle.amqp_method.specs.declared.faults.MethodFaultKind.TheVariants.{Value, Trailing}
 use Rattle.amqp_method.specs.declared.fields.FieldKind.{FieldKind}
 use Rattle.amqp_method.proofs.ArgsLemmas.{HasOctets, field_alone-takes, field_alone-again}
-use Rattle.amqp_method.proofs.FieldFaults.{err_is, bind_err, no_err, place, number_at-err, number_at-fails, field_at-err, field_at-fails}
-use Rattle.amqp_method.proofs.FieldLemmas.{same_ok, number_at-takes, number_at-again}
+use Rattle.amqp_method.proofs.FieldFaults.{err_is, bind_err, no_err, place, read_number-err, read_number-fails, field_at-err, field_at-fails}
+use Rattle.amqp_method.proofs.FieldLemmas.{same_ok, read_number-takes, read_number-again}
 use Rattle.amqp_method.proofs.HeaderLemmas.{AllHaveOctets, all_own, flags_of-clear, properties_at-takes, properties_at-again}
 use Rattle.amqp_method.proofs.MethodFaults.{number_long, place_after, place_second, fault_place, whole-err, whole-fails}
 
@@ -219,22 +219,22 @@ weighed_told octets first second rest weight e is class_is weight_is fits h =
           let class_long = number_long 2 _ first class_is in
           let weight_long = number_long 2 _ second weight_is in
           let four : place end rest ≡ 4 = place_second octets first second rest is ∙ omega arith in
-          elim (bind_err (number_at 8 end rest) _ e good.1) [
-            | inl failed ↦ (let n = number_at-err 8 end rest e failed in size_ends first second rest is class_is none n.0 (n.1 ∙ fault_place 4 end rest (Value Ends) four))
+          elim (bind_err (read_number 8 end rest) _ e good.1) [
+            | inl failed ↦ (let n = read_number-err 8 end rest e failed in size_ends first second rest is class_is none n.0 (n.1 ∙ fault_place 4 end rest (Value Ends) four))
             | inr s ↦ (
-                let size = number_at-takes 8 end rest s.0 fits s.1 in
+                let size = read_number-takes 8 end rest s.0 fits s.1 in
                 let size_long = number_long 8 _ size.prefix size.encodes in
                 let parts : octets ≡ first ++ (second ++ (size.prefix ++ s.0.1)) = is ∙ ap (λ (o : List ℕ). first ++ (second ++ o)) size.parts in
                 let beyond : length rest ≡ length size.prefix + length s.0.1 = ap length size.parts ∙ length-append size.prefix s.0.1 in
                 let total : length octets ≡ length first + length (second ++ rest) = ap length is ∙ length-append first (second ++ rest) in
                 let both = length-append second rest in
                 let twelve : place end s.0.1 ≡ 12 = omega arith in
-                elim (bind_err (number_at 2 end s.0.1) _ e s.2) [
+                elim (bind_err (read_number 2 end s.0.1) _ e s.2) [
                   | inl failed ↦ (
-                      let n = number_at-err 2 end s.0.1 e failed in
+                      let n = read_number-err 2 end s.0.1 e failed in
                       flags_end s.0.0 first second size.prefix s.0.1 parts class_is none size.encodes n.0 (n.1 ∙ fault_place 12 end s.0.1 (Value Ends) twelve))
                   | inr f ↦ (
-                      let word = number_at-takes 2 end s.0.1 f.0 size.after_fits f.1 in
+                      let word = read_number-takes 2 end s.0.1 f.0 size.after_fits f.1 in
                       let prefix = first ++ (second ++ (size.prefix ++ word.prefix)) in
                       let all : octets ≡ prefix ++ f.0.1 = parts ∙ ap (λ (o : List ℕ). first ++ (second ++ (size.prefix ++ o))) word.parts ∙ simp append_assoc in
                       flagged_told f.0.0 octets prefix f.0.1 e all
@@ -259,21 +259,21 @@ pub header_at-told : (octets : List ℕ) (e : MethodFault) → IsBytes octets �
 unfolding header_at
 header_at-told octets e fits h =
     let end = length octets in
-    elim (bind_err (number_at 2 end octets) _ e h) [
-      | inl is ↦ (let n = number_at-err 2 end octets e is in header_class_ends n.0 (n.1 ∙ fault_place 0 end octets (Value Ends) (place_after octets [] octets refl)))
+    elim (bind_err (read_number 2 end octets) _ e h) [
+      | inl is ↦ (let n = read_number-err 2 end octets e is in header_class_ends n.0 (n.1 ∙ fault_place 0 end octets (Value Ends) (place_after octets [] octets refl)))
       | inr a ↦ (
-          let class = number_at-takes 2 end octets a.0 fits a.1 in
+          let class = read_number-takes 2 end octets a.0 fits a.1 in
           elim (test_err (a.0.0 == 60) _ _ e a.2) [
             | inr bad ↦ not_basic a.0.0 class.prefix a.0.1 class.parts class.encodes (eqb-false a.0.0 60 bad.0) bad.1
             | inl good ↦ (
                 let basic = subst (λ n. EncodesNumber 2 n class.prefix) (eqb-true a.0.0 60 good.0) class.encodes in
-                elim (bind_err (number_at 2 end a.0.1) _ e good.1) [
+                elim (bind_err (read_number 2 end a.0.1) _ e good.1) [
                   | inl is ↦ (
-                      let n = number_at-err 2 end a.0.1 e is in
+                      let n = read_number-err 2 end a.0.1 e is in
                       weight_ends class.prefix a.0.1 class.parts basic n.0
                       (n.1 ∙ fault_place 2 end a.0.1 (Value Ends) (place_after octets class.prefix a.0.1 class.parts ∙ number_long 2 _ class.prefix class.encodes)))
                   | inr b ↦ (
-                      let weight = number_at-takes 2 end a.0.1 b.0 class.after_fits b.1 in
+                      let weight = read_number-takes 2 end a.0.1 b.0 class.after_fits b.1 in
                       weighed_told octets class.prefix weight.prefix b.0.1 b.0.0 e (class.parts ∙ ap (λ (o : List ℕ). class.prefix ++ o) weight.parts) basic weight.encodes weight.after_fits b.2)
                 ])
           ])
@@ -285,33 +285,33 @@ class_read : (class : ℕ) (octets first rest : List ℕ) → octets ≡ first +
 unfolding header_at
 class_read class octets first rest is class_is =
     let end = length octets in
-    let one : number_at 2 end octets ≡ Ok (class, rest) = ap (number_at 2 end) is ∙ number_at-again 2 end class first rest class_is in
+    let one : read_number 2 end octets ≡ Ok (class, rest) = ap (read_number 2 end) is ∙ read_number-again 2 end class first rest class_is in
     rw one refl
 
 weight_read : (weight : ℕ) (octets first second rest : List ℕ) → octets ≡ first ++ (second ++ rest) → EncodesNumber 2 60 first → EncodesNumber 2 weight second
     → header_at octets ≡ weighed_at (length octets) rest weight
 weight_read weight octets first second rest is class_is weight_is =
-    class_read 60 octets first (second ++ rest) is class_is ∙ rw (number_at-again 2 (length octets) weight second rest weight_is) refl
+    class_read 60 octets first (second ++ rest) is class_is ∙ rw (read_number-again 2 (length octets) weight second rest weight_is) refl
 
 prefix_read : (flags : ℕ) (octets prefix rest : List ℕ) → octets ≡ prefix ++ rest → (s : EncodesPrefix flags prefix) → header_at octets ≡ flagged_at (length octets) s.body_size rest flags
 prefix_read flags octets prefix rest is s =
     let end = length octets in
     let parts : octets ≡ s.class ++ (s.weight ++ (s.size ++ (s.word ++ rest))) = is ∙ ap (λ (o : List ℕ). o ++ rest) s.octets_are ∙ prefix_parts s.class s.weight s.size s.word rest in
-    let size = number_at-again 8 end s.body_size s.size (s.word ++ rest) s.size_is in
-    let word = number_at-again 2 end flags s.word rest s.flags_are in
+    let size = read_number-again 8 end s.body_size s.size (s.word ++ rest) s.size_is in
+    let word = read_number-again 2 end flags s.word rest s.flags_are in
     weight_read 0 octets s.class s.weight (s.size ++ (s.word ++ rest)) parts s.class_is s.weight_is ∙ rw (size, word) refl
 
 pub first_fault_of_header : (octets : List ℕ) (e : MethodFault) → FirstFaultOfHeader octets e → header_at octets ≡ Err e
 unfolding header_at
 first_fault_of_header octets e (header_class_ends short is) =
     let end = length octets in
-    rw (number_at-fails 2 end octets short) (ap (λ d. Err d) (fault_place 0 end octets (Value Ends) (place_after octets [] octets refl) ∙ sym is))
+    rw (read_number-fails 2 end octets short) (ap (λ d. Err d) (fault_place 0 end octets (Value Ends) (place_after octets [] octets refl) ∙ sym is))
 first_fault_of_header octets e (not_basic class first rest parts class_is other is) =
     class_read class octets first rest parts class_is ∙ rw (ne_eqb class 60 other) (ap (λ d. Err d) (sym is))
 first_fault_of_header octets e (weight_ends first rest parts class_is short is) =
     let end = length octets in
     class_read 60 octets first rest parts class_is
-    ∙ rw (number_at-fails 2 end rest short)
+    ∙ rw (read_number-fails 2 end rest short)
     (ap (λ d. Err d) (fault_place 2 end rest (Value Ends) (place_after octets first rest parts ∙ number_long 2 _ first class_is) ∙ sym is))
 first_fault_of_header octets e (bad_weight weight first second rest parts class_is weight_is other is) =
     weight_read weight octets first second rest parts class_is weight_is ∙ rw (ne_eqb weight 0 other) (ap (λ d. Err d) (sym is))
@@ -320,7 +320,7 @@ first_fault_of_header octets e (size_ends first second rest parts class_is weigh
     let class_long = number_long 2 _ first class_is in
     let weight_long = number_long 2 _ second weight_is in
     let four : place end rest ≡ 4 = place_second octets first second rest parts ∙ omega arith in
-    weight_read 0 octets first second rest parts class_is weight_is ∙ rw (number_at-fails 8 end rest short) (ap (λ d. Err d) (fault_place 4 end rest (Value Ends) four ∙ sym is))
+    weight_read 0 octets first second rest parts class_is weight_is ∙ rw (read_number-fails 8 end rest short) (ap (λ d. Err d) (fault_place 4 end rest (Value Ends) four ∙ sym is))
 first_fault_of_header octets e (flags_end size first second third rest parts class_is weight_is size_is short is) =
     let end = length octets in
     let class_long = number_long 2 _ first class_is in
@@ -331,7 +331,7 @@ first_fault_of_header octets e (flags_end size first second third rest parts cla
     let three = length-append third rest in
     let twelve : place end rest ≡ 12 = omega arith in
     weight_read 0 octets first second (third ++ rest) parts class_is weight_is
-    ∙ rw (number_at-again 8 end size third rest size_is, number_at-fails 2 end rest short) (ap (λ d. Err d) (fault_place 12 end rest (Value Ends) twelve ∙ sym is))
+    ∙ rw (read_number-again 8 end size third rest size_is, read_number-fails 2 end rest short) (ap (λ d. Err d) (fault_place 12 end rest (Value Ends) twelve ∙ sym is))
 first_fault_of_header octets e (bad_flags flags prefix rest parts s other is) =
     prefix_read flags octets prefix rest parts s ∙ rw (ne_eqb (flags % 4) 0 other) (ap (λ d. Err d) (sym is))
 first_fault_of_header octets e (in_property flags prefix rest parts s clear t) =

@@ -16,11 +16,11 @@ use Rattle.amqp_method.specs.Properties.{ContentHeader, header, HaveKinds, flags
 use Rattle.amqp_method.specs.Plain.{plain_argument, plain_start, plain_present, plain_header}
 use Rattle.amqp_method.specs.Writing.{Fitting, PresentFitting}
 use Rattle.byteorder.specs.Endian.{big_bytes}
-use Rattle.amqp_method.specs.Reading.{Gives, no_bits, number_at, field_at}
+use Rattle.amqp_method.specs.Reading.{Gives, no_bits, read_number, field_at}
 use Rattle.amqp_method.specs.Encoding.{EncodesArgument}
 use Rattle.amqp_method.specs.declared.faults.MethodFault.{MethodFault}
 use Rattle.amqp_method.specs.declared.fields.FieldKind.{FieldKind}
-use Rattle.amqp_method.proofs.FieldLemmas.{same_ok, number_at-takes, number_at-again}
+use Rattle.amqp_method.proofs.FieldLemmas.{same_ok, read_number-takes, read_number-again}
 use Rattle.amqp_method.proofs.ArgsLemmas.{HasOctets, field_alone-takes, field_alone-again}
 use Rattle.amqp_method.proofs.MethodLemmas.{whole-ok}
 
@@ -157,16 +157,16 @@ pub header_at-takes : (octets : List ℕ) (h : ContentHeader) → IsBytes octets
 unfolding header_at
 header_at-takes octets h fits e =
     let end = length octets in
-    let a = bind_ok (number_at 2 end octets) _ h e in
-    let class = number_at-takes 2 end octets a.0 fits a.1 in
+    let a = bind_ok (read_number 2 end octets) _ h e in
+    let class = read_number-takes 2 end octets a.0 fits a.1 in
     let c = test_ok (a.0.0 == 60) _ _ h a.2 in
-    let b = bind_ok (number_at 2 end a.0.1) _ h c.1 in
-    let weight = number_at-takes 2 end a.0.1 b.0 class.after_fits b.1 in
+    let b = bind_ok (read_number 2 end a.0.1) _ h c.1 in
+    let weight = read_number-takes 2 end a.0.1 b.0 class.after_fits b.1 in
     let w = test_ok (b.0.0 == 0) _ _ h b.2 in
-    let s = bind_ok (number_at 8 end b.0.1) _ h w.1 in
-    let size = number_at-takes 8 end b.0.1 s.0 weight.after_fits s.1 in
-    let f = bind_ok (number_at 2 end s.0.1) _ h s.2 in
-    let flags = number_at-takes 2 end s.0.1 f.0 size.after_fits f.1 in
+    let s = bind_ok (read_number 8 end b.0.1) _ h w.1 in
+    let size = read_number-takes 8 end b.0.1 s.0 weight.after_fits s.1 in
+    let f = bind_ok (read_number 2 end s.0.1) _ h s.2 in
+    let flags = read_number-takes 2 end s.0.1 f.0 size.after_fits f.1 in
     let g = test_ok (f.0.0 % 4 == 0) _ _ h f.2 in
     let p = bind_ok (properties_at property_kinds f.0.0 end f.0.1) _ h g.1 in
     let t = properties_at-takes property_kinds f.0.0 end f.0.1 p.0 all_own flags.after_fits p.1 in
@@ -227,11 +227,11 @@ pub header_at-again : (octets : List ℕ) (h : ContentHeader) → EncodesHeader 
 unfolding header_at
 header_at-again octets h s =
     let end = length octets in
-    let class : number_at 2 end octets ≡ Ok (60, s.weight ++ (s.size ++ (s.flags ++ s.rest))) =
-    ap (number_at 2 end) s.octets_are ∙ number_at-again 2 end 60 s.class (s.weight ++ (s.size ++ (s.flags ++ s.rest))) s.class_is in
-    let weight = number_at-again 2 end 0 s.weight (s.size ++ (s.flags ++ s.rest)) s.weight_is in
-    let size = number_at-again 8 end h.body_size s.size (s.flags ++ s.rest) s.size_is in
-    let flags = number_at-again 2 end (flags_of h.properties) s.flags s.rest s.flags_are in
+    let class : read_number 2 end octets ≡ Ok (60, s.weight ++ (s.size ++ (s.flags ++ s.rest))) =
+    ap (read_number 2 end) s.octets_are ∙ read_number-again 2 end 60 s.class (s.weight ++ (s.size ++ (s.flags ++ s.rest))) s.class_is in
+    let weight = read_number-again 2 end 0 s.weight (s.size ++ (s.flags ++ s.rest)) s.weight_is in
+    let size = read_number-again 8 end h.body_size s.size (s.flags ++ s.rest) s.size_is in
+    let flags = read_number-again 2 end (flags_of h.properties) s.flags s.rest s.flags_are in
     let clear = flags_of-clear h.properties in
     let small : flags_of h.properties < 2 ^ 16 = omega (arith, s.flags_are.fits) in
     let properties : properties_at property_kinds (flags_of h.properties) end s.rest ≡ Ok (h.properties, []) =

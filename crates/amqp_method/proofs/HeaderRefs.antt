@@ -18,13 +18,13 @@ use Rattle.amqp_method.specs.HeaderRefView.{properties_read, property_at, proper
 use Rattle.amqp_method.specs.ArgRefView.{arg_ref_view}
 use Rattle.amqp_method.specs.declared.arg_ref.ArgRef.{ArgRef}
 use Rattle.amqp_method.specs.Properties.{ContentHeader, header, EncodesHeader, property_kinds, flags_of}
-use Rattle.amqp_method.specs.Reading.{Read, Bits, no_bits, number_at, after_table, ends_run, field_at}
+use Rattle.amqp_method.specs.Reading.{Read, Bits, no_bits, read_number, after_table, ends_run, field_at}
 use Rattle.amqp_value.specs.Whole.{BeginsTable}
 use Rattle.amqp_method.specs.declared.faults.MethodFault.{MethodFault}
 use Rattle.amqp_method.specs.declared.header_ref.HeaderRef.{HeaderRef}
 use Rattle.amqp_method.specs.declared.fields.FieldKind.{FieldKind}
 use Rattle.amqp_method.specs.declared.fields.FieldKind.TheVariants.{Table}
-use Rattle.amqp_method.proofs.FieldLemmas.{same_ok, number_at-takes}
+use Rattle.amqp_method.proofs.FieldLemmas.{same_ok, read_number-takes}
 use Rattle.amqp_method.proofs.HeaderChecks.{kind_here, flag_of, flag_at}
 use Rattle.amqp_method.proofs.HeaderLemmas.{properties_at-takes, all_own, header_at-again, test_ok, none_there, no_later}
 use Rattle.amqp_method.proofs.MethodLemmas.{whole-ok}
@@ -42,19 +42,19 @@ pub has_properties : (octets : List ℕ) (h : ContentHeader) → IsBytes octets 
 unfolding header_at
 has_properties octets h fits e =
     let end = length octets in
-    let a = bind_ok (number_at 2 end octets) _ h e in
-    let class = number_at-takes 2 end octets a.0 fits a.1 in
+    let a = bind_ok (read_number 2 end octets) _ h e in
+    let class = read_number-takes 2 end octets a.0 fits a.1 in
     let first = is_number 2 end octets a.0 a.1 in
     let c = test_ok (a.0.0 == 60) _ _ h a.2 in
-    let b = bind_ok (number_at 2 end a.0.1) _ h c.1 in
-    let weight = number_at-takes 2 end a.0.1 b.0 class.after_fits b.1 in
+    let b = bind_ok (read_number 2 end a.0.1) _ h c.1 in
+    let weight = read_number-takes 2 end a.0.1 b.0 class.after_fits b.1 in
     let second = is_number 2 end a.0.1 b.0 b.1 in
     let w = test_ok (b.0.0 == 0) _ _ h b.2 in
-    let s = bind_ok (number_at 8 end b.0.1) _ h w.1 in
-    let size = number_at-takes 8 end b.0.1 s.0 weight.after_fits s.1 in
+    let s = bind_ok (read_number 8 end b.0.1) _ h w.1 in
+    let size = read_number-takes 8 end b.0.1 s.0 weight.after_fits s.1 in
     let third = is_number 8 end b.0.1 s.0 s.1 in
-    let f = bind_ok (number_at 2 end s.0.1) _ h s.2 in
-    let flags = number_at-takes 2 end s.0.1 f.0 size.after_fits f.1 in
+    let f = bind_ok (read_number 2 end s.0.1) _ h s.2 in
+    let flags = read_number-takes 2 end s.0.1 f.0 size.after_fits f.1 in
     let fourth = is_number 2 end s.0.1 f.0 f.1 in
     let g = test_ok (f.0.0 % 4 == 0) _ _ h f.2 in
     let p = bind_ok (properties_at property_kinds f.0.0 end f.0.1) _ h g.1 in

@@ -5,10 +5,10 @@ use Rattle.std.proofs.lemmas.Bool.{ne_eqb}
 use Rattle.std.proofs.lemmas.List.{drop_all}
 use Rattle.amqp_value.specs.Lengths.{capped}
 use Rattle.amqp_method.specs.Arguments.{Argument, bit, octet, short, long, long_long, short_string, long_string, table, kind_of}
-use Rattle.amqp_method.specs.FirstFault.{left_by_bit, left_by as bits_left_by}
+use Rattle.amqp_method.specs.FirstFault.{left_by_bit, bits_left_by as bits_left_by}
 use Rattle.amqp_method.specs.Lengths.{octets_of_bit, octets_of, values_length}
 use Rattle.amqp_method.specs.Lent.{lent_view, lent_views}
-use Rattle.amqp_method.specs.Plain.{plain_argument, plain_values, plain_property, plain_present, value_for, left_by}
+use Rattle.amqp_method.specs.Plain.{plain_argument, plain_values, plain_property, plain_present, value_for, args_left_by}
 use Rattle.amqp_method.specs.Writing.{Gathered, none_gathered, gathered_octets, written_values}
 use Rattle.amqp_method.specs.declared.fields.Field.{Field}
 use Rattle.amqp_method.specs.declared.properties.Lent.{Lent}
@@ -103,7 +103,7 @@ counts_value octets left next after value values those all is next_is after_is w
     }
 
 pub counts_field : (fields : List Field) (i : ℕ) (d : Field) (args others : List Argument) (octets left next after : ℕ) (all : List Argument) → i < length fields
-    → others ≡ left_by (get_or fields i d).reserved args
+    → others ≡ args_left_by (get_or fields i d).reserved args
     → next ≡ capped (octets + octets_of (value_for (get_or fields i d).reserved (get_or fields i d).kind args) left)
     → after ≡ bits_left_by (kind_of (value_for (get_or fields i d).reserved (get_or fields i d).kind args)) left
     → CountsOn octets left (values_from i fields args) all → CountsOn next after (values_from (i + 1) fields others) all

@@ -10,15 +10,15 @@ use Rattle.amqp_method.specs.Faults.{fault_at, out_of_memory}
 use Rattle.amqp_method.specs.FirstFault.{left_after, FaultInField, FirstFaultOfMethod, class_ends, id_ends, unknown, in_argument, method_trailing}
 use Rattle.amqp_method.specs.Kinds.{HasIds, kind_with, fields_of}
 use Rattle.amqp_method.specs.Methods.{FieldRow, row}
-use Rattle.amqp_method.specs.Reading.{Gives, Bits, no_bits, number_at, field_at, args_at, whole, call_at, method_at}
+use Rattle.amqp_method.specs.Reading.{Gives, Bits, no_bits, read_number, field_at, args_at, whole, call_at, method_at}
 use Rattle.amqp_method.specs.Encoding.{parts_of}
 use Rattle.amqp_method.specs.declared.faults.MethodFault.{MethodFault}
 use Rattle.amqp_method.specs.declared.faults.MethodFaultKind.{MethodFaultKind}
 use Rattle.amqp_method.specs.declared.faults.MethodFaultKind.TheVariants.{Value, Trailing}
 use Rattle.amqp_method.specs.declared.kinds.Kind.{Kind}
 use Rattle.amqp_method.proofs.ArgsLemmas.{kinds_of, field_at-takes, field_at-again, args_at-takes, args_at-again}
-use Rattle.amqp_method.proofs.FieldFaults.{err_is, bind_err, no_err, place, number_at-err, number_at-fails, field_at-err, field_at-fails, field_at-left}
-use Rattle.amqp_method.proofs.FieldLemmas.{number_at-takes, number_at-again}
+use Rattle.amqp_method.proofs.FieldFaults.{err_is, bind_err, no_err, place, read_number-err, read_number-fails, field_at-err, field_at-fails, field_at-left}
+use Rattle.amqp_method.proofs.FieldLemmas.{read_number-takes, read_number-again}
 use Rattle.amqp_method.proofs.KindLemmas.{kind_with-named, kind_with-own}
 use Rattle.amqp_method.proofs.RunLemmas.{EncodesOn, on_parts, off_parts}
 
@@ -187,17 +187,17 @@ pub method_at-told : (octets : List ℕ) (e : MethodFault) → IsBytes octets �
 unfolding method_at
 method_at-told octets e fits h =
     let end = length octets in
-    elim (bind_err (number_at 2 end octets) _ e h) [
-      | inl is ↦ (let n = number_at-err 2 end octets e is in class_ends n.0 (n.1 ∙ fault_place 0 end octets (Value Ends) (place_after octets [] octets refl)))
+    elim (bind_err (read_number 2 end octets) _ e h) [
+      | inl is ↦ (let n = read_number-err 2 end octets e is in class_ends n.0 (n.1 ∙ fault_place 0 end octets (Value Ends) (place_after octets [] octets refl)))
       | inr a ↦ (
-          let class = number_at-takes 2 end octets a.0 fits a.1 in
-          elim (bind_err (number_at 2 end a.0.1) _ e a.2) [
+          let class = read_number-takes 2 end octets a.0 fits a.1 in
+          elim (bind_err (read_number 2 end a.0.1) _ e a.2) [
             | inl is ↦ (
-                let n = number_at-err 2 end a.0.1 e is in
+                let n = read_number-err 2 end a.0.1 e is in
                 id_ends a.0.0 class.prefix a.0.1 class.parts class.encodes n.0
                 (n.1 ∙ fault_place 2 end a.0.1 (Value Ends) (place_after octets class.prefix a.0.1 class.parts ∙ number_long 2 _ class.prefix class.encodes)))
             | inr b ↦ (
-                let id = number_at-takes 2 end a.0.1 b.0 class.after_fits b.1 in
+                let id = read_number-takes 2 end a.0.1 b.0 class.after_fits b.1 in
                 call_told a.0.0 b.0.0 octets class.prefix id.prefix b.0.1 (kind_with a.0.0 b.0.0) e (class.parts ∙ ap (λ (o : List ℕ). class.prefix ++ o) id.parts) class.encodes id.encodes id.after_fits refl b.2)
           ])
     ]
@@ -214,19 +214,19 @@ ids_read : (class id : ℕ) (octets first second rest : List ℕ) → octets ≡
 unfolding method_at
 ids_read class id octets first second rest is class_is id_is =
     let end = length octets in
-    let one : number_at 2 end octets ≡ Ok (class, second ++ rest) = ap (number_at 2 end) is ∙ number_at-again 2 end class first (second ++ rest) class_is in
-    let two = number_at-again 2 end id second rest id_is in
+    let one : read_number 2 end octets ≡ Ok (class, second ++ rest) = ap (read_number 2 end) is ∙ read_number-again 2 end class first (second ++ rest) class_is in
+    let two = read_number-again 2 end id second rest id_is in
     rw (one, two) refl
 
 pub first_fault_of_method : (octets : List ℕ) (e : MethodFault) → FirstFaultOfMethod octets e → method_at octets ≡ Err e
 unfolding method_at
 first_fault_of_method octets e (class_ends short is) =
     let end = length octets in
-    rw (number_at-fails 2 end octets short) (ap (λ d. Err d) (fault_place 0 end octets (Value Ends) (place_after octets [] octets refl) ∙ sym is))
+    rw (read_number-fails 2 end octets short) (ap (λ d. Err d) (fault_place 0 end octets (Value Ends) (place_after octets [] octets refl) ∙ sym is))
 first_fault_of_method octets e (id_ends class first rest parts class_is short is) =
     let end = length octets in
-    let one : number_at 2 end octets ≡ Ok (class, rest) = ap (number_at 2 end) parts ∙ number_at-again 2 end class first rest class_is in
-    rw (one, number_at-fails 2 end rest short)
+    let one : read_number 2 end octets ≡ Ok (class, rest) = ap (read_number 2 end) parts ∙ read_number-again 2 end class first rest class_is in
+    rw (one, read_number-fails 2 end rest short)
     (ap (λ d. Err d) (fault_place 2 end rest (Value Ends) (place_after octets first rest parts ∙ number_long 2 class first class_is) ∙ sym is))
 first_fault_of_method octets e (unknown class id first second rest parts class_is id_is none is) =
     ids_read class id octets first second rest parts class_is id_is

@@ -8,13 +8,13 @@ use Rattle.amqp_method.specs.Arguments.{Argument, kind_of, keep, kept, wanted_ki
 use Rattle.amqp_method.specs.Faults.{out_of_memory}
 use Rattle.amqp_method.specs.Kinds.{HasIds, kind_with, fields_of}
 use Rattle.amqp_method.specs.Methods.{FieldRow, row}
-use Rattle.amqp_method.specs.Reading.{Gives, no_bits, number_at, args_at, whole, call_at, method_at}
+use Rattle.amqp_method.specs.Reading.{Gives, no_bits, read_number, args_at, whole, call_at, method_at}
 use Rattle.amqp_method.specs.Encoding.{parts_of, EncodesParts, EncodesArgs, EncodesMethod}
 use Rattle.amqp_method.specs.declared.faults.MethodFault.{MethodFault}
 use Rattle.amqp_method.specs.declared.fields.FieldKind.{FieldKind}
 use Rattle.amqp_method.specs.declared.kinds.Kind.{Kind}
 use Rattle.amqp_method.proofs.ArgsLemmas.{kinds_of, args_at-takes, args_at-again}
-use Rattle.amqp_method.proofs.FieldLemmas.{same_ok, number_at-takes, number_at-again}
+use Rattle.amqp_method.proofs.FieldLemmas.{same_ok, read_number-takes, read_number-again}
 use Rattle.amqp_method.proofs.KindLemmas.{kind_with-named, kind_with-own}
 use Rattle.amqp_method.proofs.RunLemmas.{on_parts, off_parts}
 
@@ -43,10 +43,10 @@ pub method_at-takes : (octets : List ℕ) (c : Call) → IsBytes octets → meth
 unfolding method_at
 method_at-takes octets c fits e =
     let end = length octets in
-    let a = bind_ok (number_at 2 end octets) _ c e in
-    let class = number_at-takes 2 end octets a.0 fits a.1 in
-    let b = bind_ok (number_at 2 end a.0.1) _ c a.2 in
-    let id = number_at-takes 2 end a.0.1 b.0 class.after_fits b.1 in
+    let a = bind_ok (read_number 2 end octets) _ c e in
+    let class = read_number-takes 2 end octets a.0 fits a.1 in
+    let b = bind_ok (read_number 2 end a.0.1) _ c a.2 in
+    let id = read_number-takes 2 end a.0.1 b.0 class.after_fits b.1 in
     let t = call_at-takes end a.0.0 b.0.0 b.0.1 (kind_with a.0.0 b.0.0) c id.after_fits refl b.2 in
     record {
       class = class.prefix;
@@ -62,9 +62,9 @@ pub method_at-again : (octets : List ℕ) (c : Call) → EncodesMethod c octets 
 unfolding method_at
 method_at-again octets c s =
     let end = length octets in
-    let class : number_at 2 end octets ≡ Ok ((row c.kind).class, s.id ++ s.arguments) =
-    ap (number_at 2 end) s.octets_are ∙ number_at-again 2 end (row c.kind).class s.class (s.id ++ s.arguments) s.class_is in
-    let id = number_at-again 2 end (row c.kind).id s.id s.arguments s.id_is in
+    let class : read_number 2 end octets ≡ Ok ((row c.kind).class, s.id ++ s.arguments) =
+    ap (read_number 2 end) s.octets_are ∙ read_number-again 2 end (row c.kind).class s.class (s.id ++ s.arguments) s.class_is in
+    let id = read_number-again 2 end (row c.kind).id s.id s.arguments s.id_is in
     let args : args_at (fields_of c.kind) no_bits end s.arguments ≡ Ok (c.args, []) =
     ap (args_at (fields_of c.kind) no_bits end) (sym (append-nil s.arguments))
     ∙ args_at-again (fields_of c.kind) s.args.values no_bits end s.arguments [] s.args.kinds_are (on_parts 0 (parts_of s.args.values) s.arguments s.args.encoded)

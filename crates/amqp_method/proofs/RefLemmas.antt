@@ -18,7 +18,7 @@ use Rattle.amqp_method.specs.MethodRefs.{values_read}
 use Rattle.amqp_method.specs.MethodRefView.{args_read}
 use Rattle.amqp_method.specs.Methods.{FieldRow}
 use Rattle.amqp_method.specs.Places.{argument_at}
-use Rattle.amqp_method.specs.Reading.{Read, Bits, no_bits, number_at, after_table, ends_run, field_at, args_at, call_at, method_at}
+use Rattle.amqp_method.specs.Reading.{Read, Bits, no_bits, read_number, after_table, ends_run, field_at, args_at, call_at, method_at}
 use Rattle.amqp_method.specs.Rows.{field_view}
 use Rattle.amqp_method.specs.declared.faults.MethodFault.{MethodFault}
 use Rattle.amqp_method.specs.declared.fields.Field.{Field}
@@ -39,7 +39,7 @@ pub record IsNumber (n : ℕ) (octets : List ℕ) (x : ℕ × List ℕ) : Type 0
   pub number : x.0 ≡ big_number n octets
   pub after : x.1 ≡ drop n octets
 
-pub is_number : (n end : ℕ) (octets : List ℕ) (x : ℕ × List ℕ) → number_at n end octets ≡ Ok x → IsNumber n octets x
+pub is_number : (n end : ℕ) (octets : List ℕ) (x : ℕ × List ℕ) → read_number n end octets ≡ Ok x → IsNumber n octets x
 is_number n end octets x e =
     let g = guard_ok (ltb (length octets) n) _ _ x e in
     record {
@@ -60,9 +60,9 @@ pub has_args : (octets : List ℕ) (c : Call) → method_at octets ≡ Ok c → 
 unfolding method_at
 has_args octets c e =
     let end = length octets in
-    let a = bind_ok (number_at 2 end octets) _ c e in
+    let a = bind_ok (read_number 2 end octets) _ c e in
     let class = is_number 2 end octets a.0 a.1 in
-    let b = bind_ok (number_at 2 end a.0.1) _ c a.2 in
+    let b = bind_ok (read_number 2 end a.0.1) _ c a.2 in
     let id = is_number 2 end a.0.1 b.0 b.1 in
     let rest : b.0.1 ≡ drop 4 octets = id.after ∙ ap (λ (o : List ℕ). drop 2 o) class.after ∙ drop-drop 2 2 octets in
     record {

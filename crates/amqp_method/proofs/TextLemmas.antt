@@ -5,7 +5,7 @@ use Rattle.amqp_method.specs.Arguments.{Argument}
 use Rattle.amqp_method.specs.Lent.{lent_view, lent_views}
 use Rattle.std.specs.Prelude.{codes, Option, Some, None, is_none}
 use Rattle.amqp_method.specs.Methods.{FieldRow}
-use Rattle.amqp_method.specs.Plain.{left_by}
+use Rattle.amqp_method.specs.Plain.{args_left_by}
 use Rattle.amqp_method.specs.Rows.{field_view}
 use Rattle.amqp_method.specs.Texts.{argument_text, field_text, fields_text, named_text, space_text, parted, property_text, properties_text}
 use Rattle.amqp_method.specs.declared.fields.Field.{Field}
@@ -14,7 +14,7 @@ use Rattle.amqp_method.proofs.FitLemmas.{field_here}
 
 -- the text of one field more is written
 pub field_step : (fields : List Field) (i : ℕ) (d : Field) (args others : List Argument) (done all : List ℕ) → i < length fields
-    → others ≡ left_by (get_or fields i d).reserved args → done ++ fields_text (map field_view (drop i fields)) args ≡ all
+    → others ≡ args_left_by (get_or fields i d).reserved args → done ++ fields_text (map field_view (drop i fields)) args ≡ all
     → (done ++ field_text (get_or fields i d).reserved (get_or fields i d).name.now args) ++ fields_text (map field_view (drop (i + 1) fields)) others ≡ all
 field_step fields i d args others done all h left before =
     let here = ap (λ (f : List FieldRow). fields_text f args) (field_here fields i d h) in

@@ -4,7 +4,7 @@ use Rattle.std.specs.Prelude.{OnOk}
 use Rattle.std.proofs.lemmas.List.{append-nil, drop_all, take_at, take-append-le, take-take}
 use Rattle.amqp_method.specs.Arguments.{Argument, nothing}
 use Rattle.amqp_method.specs.Methods.{FieldRow}
-use Rattle.amqp_method.specs.Plain.{value_for, left_by, complete, CountFits, CountsAllFit}
+use Rattle.amqp_method.specs.Plain.{value_for, args_left_by, complete, CountFits, CountsAllFit}
 use Rattle.amqp_method.specs.Rows.{field_view}
 use Rattle.amqp_method.specs.Writing.{Gathered, none_gathered, gathered_octets, written_for, gathered_after, written_values, Fitting, AllFitting}
 use Rattle.amqp_method.specs.declared.fields.Field.{Field}
@@ -35,7 +35,7 @@ abbrev pub values_from : ℕ → List Field → List Argument → List Argument
 values_from i fields args = complete (map field_view (drop i fields)) args
 
 pub values_here : (fields : List Field) (i : ℕ) (d : Field) (args : List Argument) → i < length fields
-    → values_from i fields args ≡ value_for (get_or fields i d).reserved (get_or fields i d).kind args ∷ values_from (i + 1) fields (left_by (get_or fields i d).reserved args)
+    → values_from i fields args ≡ value_for (get_or fields i d).reserved (get_or fields i d).kind args ∷ values_from (i + 1) fields (args_left_by (get_or fields i d).reserved args)
 values_here fields i d args h = ap (λ (f : List FieldRow). complete f args) (field_here fields i d h)
 
 pub begins : (old : List ℕ) (all : List Argument) → WritesOn old old all none_gathered all
@@ -87,7 +87,7 @@ on_ok (Err e) f h = h
 
 -- the value of one field more is written
 pub next_field : (fields : List Field) (i : ℕ) (d : Field) (args others : List Argument) (old done next : List ℕ) (g after : Gathered) (all : List Argument) → i < length fields
-    → others ≡ left_by (get_or fields i d).reserved args
+    → others ≡ args_left_by (get_or fields i d).reserved args
     → next ≡ done ++ written_for (value_for (get_or fields i d).reserved (get_or fields i d).kind args) g
     → after ≡ gathered_after (value_for (get_or fields i d).reserved (get_or fields i d).kind args) g
     → Fitting (value_for (get_or fields i d).reserved (get_or fields i d).kind args)

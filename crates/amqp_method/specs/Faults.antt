@@ -18,7 +18,7 @@ abbrev pub too_long : MethodFault
 too_long = fault_at 0 (Value value.TooLong)
 
 -- The fault of a table that begins at a place. Out of memory has no place.
-abbrev pub table_fault : ℕ → ℕ → ValueFaultKind → MethodFault
+abbrev table_fault : ℕ → ℕ → ValueFaultKind → MethodFault
 table_fault place at value.OutOfMemory = out_of_memory
 table_fault place at value.Ends = fault_at (place + at) (Value value.Ends)
 table_fault place at value.UnknownTag = fault_at (place + at) (Value value.UnknownTag)

@@ -27,20 +27,20 @@ left_by_bit zero = 7
 left_by_bit (suc left) = left
 
 -- how many bits a field leaves in the octet of its run: a field that isn't a bit ends the run
-abbrev pub left_by : FieldKind → ℕ → ℕ
-left_by Bit left = left_by_bit left
-left_by Octet left = 0
-left_by Short left = 0
-left_by Long left = 0
-left_by LongLong left = 0
-left_by ShortStr left = 0
-left_by LongStr left = 0
-left_by Table left = 0
+abbrev pub bits_left_by : FieldKind → ℕ → ℕ
+bits_left_by Bit left = left_by_bit left
+bits_left_by Octet left = 0
+bits_left_by Short left = 0
+bits_left_by Long left = 0
+bits_left_by LongLong left = 0
+bits_left_by ShortStr left = 0
+bits_left_by LongStr left = 0
+bits_left_by Table left = 0
 
 -- how many bits are left after these fields
 abbrev pub left_after : List FieldRow → ℕ → ℕ
 left_after [] left = left
-left_after (f ∷ fields) left = left_after fields (left_by f.kind left)
+left_after (f ∷ fields) left = left_after fields (bits_left_by f.kind left)
 
 -- a length octet and that many octets pass the end
 abbrev pub PassesShort : List ℕ → Type 0

@@ -76,7 +76,7 @@ abbrev pub ArgumentsFit : List Argument → Type 0
 ArgumentsFit args = AllByRecursion ArgumentFits args
 
 -- a property, if it is there, fits its field
-abbrev pub PropertyFits : Option Argument → Type 0
+abbrev PropertyFits : Option Argument → Type 0
 PropertyFits None = Unit {0}
 PropertyFits (Some value) = ArgumentFits value
 

@@ -4,7 +4,7 @@ use Rattle.amqp_value.specs.Reading.{◌>>=◌}
 use Rattle.amqp_method.specs.Arguments.{Argument}
 use Rattle.amqp_method.specs.Faults.{fault_at}
 use Rattle.amqp_method.specs.Properties.{property_kinds, ContentHeader, header}
-use Rattle.amqp_method.specs.Reading.{Reader, number_at, no_bits, field_at, whole}
+use Rattle.amqp_method.specs.Reading.{Reader, read_number, no_bits, field_at, whole}
 use Rattle.amqp_method.specs.declared.faults.MethodFault.{MethodFault}
 use Rattle.amqp_method.specs.declared.faults.MethodFaultKind.TheVariants.{UnknownMethod, BadWeight, BadFlags}
 use Rattle.amqp_method.specs.declared.fields.FieldKind.{FieldKind}
@@ -40,15 +40,15 @@ flagged_at end size octets flags =
 abbrev pub weighed_at : ℕ → List ℕ → ℕ → Result ContentHeader MethodFault
 weighed_at end octets weight =
     if weight == 0
-    then (number_at 8 end octets >>= λ size.
-    (number_at 2 end size.1 >>= λ flags. flagged_at end size.0 flags.1 flags.0))
+    then (read_number 8 end octets >>= λ size.
+    (read_number 2 end size.1 >>= λ flags. flagged_at end size.0 flags.1 flags.0))
     else Err (fault_at 2 BadWeight)
 
 abbrev pub classed_at : ℕ → List ℕ → ℕ → Result ContentHeader MethodFault
 classed_at end octets class =
-    if class == 60 then (number_at 2 end octets >>= λ weight. weighed_at end weight.1 weight.0)
+    if class == 60 then (read_number 2 end octets >>= λ weight. weighed_at end weight.1 weight.0)
     else Err (fault_at 0 UnknownMethod)
 
 -- a header
 unfoldable pub header_at : List ℕ → Result ContentHeader MethodFault
-header_at octets = number_at 2 (length octets) octets >>= λ class. classed_at (length octets) class.1 class.0
+header_at octets = read_number 2 (length octets) octets >>= λ class. classed_at (length octets) class.1 class.0

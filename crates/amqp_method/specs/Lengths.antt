@@ -1,7 +1,7 @@
 -- How many octets values are written in: a bit has an octet of its own where the one before leaves no bit.
 use Rattle.std.specs.Prelude.{ℕ, zero, suc, ◌+◌, List, [], ◌∷◌, length}
 use Rattle.amqp_method.specs.Arguments.{Argument, bit, octet, short, long, long_long, short_string, long_string, table, kind_of}
-use Rattle.amqp_method.specs.FirstFault.{left_by}
+use Rattle.amqp_method.specs.FirstFault.{bits_left_by}
 use Rattle.amqp_method.specs.Plain.{plain_argument}
 
 -- how many octets a bit adds, where the octet begun has so many bits left
@@ -23,4 +23,4 @@ octets_of (table pairs) left = length (plain_argument (table pairs))
 -- and values
 abbrev pub values_length : List Argument → ℕ → ℕ
 values_length [] left = 0
-values_length (value ∷ values) left = octets_of value left + values_length values (left_by (kind_of value) left)
+values_length (value ∷ values) left = octets_of value left + values_length values (bits_left_by (kind_of value) left)

@@ -36,7 +36,7 @@ abbrev pub letter : Form → Letter
 letter (form.Plain method) = letter_alone (method_view method)
 letter (form.Content content) = content_letter (boxed_value content)
 
-abbrev pub is_content : Form → Bool
+abbrev is_content : Form → Bool
 is_content (form.Plain method) = false
 is_content (form.Content content) = true
 
@@ -45,7 +45,7 @@ abbrev pub KindFits : Form → Type 0
 KindFits f = has_content (letter f).call.kind ≡ is_content f
 
 -- the size of the body that the header of a content says
-abbrev pub said_size : Form → ℕ
+abbrev said_size : Form → ℕ
 said_size (form.Plain method) = 0
 said_size (form.Content content) = (boxed_value content).header.body_size
 

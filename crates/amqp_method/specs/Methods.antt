@@ -16,10 +16,10 @@ pub record FieldRow : Type 0 where
   pub kind : FieldKind
   pub reserved : Bool
 
-abbrev pub field : FieldKind → List ℕ → FieldRow
+abbrev field : FieldKind → List ℕ → FieldRow
 field kind name = record { name = name; kind = kind; reserved = false }
 
-abbrev pub reserved_field : FieldKind → List ℕ → FieldRow
+abbrev reserved_field : FieldKind → List ℕ → FieldRow
 reserved_field kind name = record { name = name; kind = kind; reserved = true }
 
 -- what a client's method asks for: a reply in any case, a reply unless the bit no-wait at this place is 1, or none
@@ -44,7 +44,7 @@ pub record Row : Type 0 where
 
 -- by number, name, sender, whether content follows, the request that it answers, the reply that it asks for, and the
 -- fields
-abbrev pub method : ℕ → ℕ → List ℕ → Sender → Bool → Option Kind → Wanted → List FieldRow → Row
+abbrev method : ℕ → ℕ → List ℕ → Sender → Bool → Option Kind → Wanted → List FieldRow → Row
 method class id name sender content answers wanted fields =
     record { class = class; id = id; name = name; sender = sender; content = content; answers = answers; wanted = wanted; fields = fields }
 

@@ -53,18 +53,18 @@ found read (Some argument) = read argument
 
 -- ---- an argument of any of these kinds, or zero, or empty
 
-abbrev pub bit_in : Option Argument → Bool
+abbrev bit_in : Option Argument → Bool
 bit_in (Some (bit holds)) = holds
 bit_in other = false
 
-abbrev pub number_in : Option Argument → ℕ
+abbrev number_in : Option Argument → ℕ
 number_in (Some (octet n)) = n
 number_in (Some (short n)) = n
 number_in (Some (long n)) = n
 number_in (Some (long_long n)) = n
 number_in other = 0
 
-abbrev pub octets_in : Option Argument → List ℕ
+abbrev octets_in : Option Argument → List ℕ
 octets_in (Some (short_string octets)) = octets
 octets_in (Some (long_string octets)) = octets
 octets_in other = []
@@ -87,7 +87,7 @@ place_named at (f ∷ fields) name =
     cond f.reserved (place_named at fields name) (cond (bytes_eq f.name name) (Some at)
     (place_named (suc at) fields name))
 
-abbrev pub argument_in : Option ℕ → List Argument → Option Argument
+abbrev argument_in : Option ℕ → List Argument → Option Argument
 argument_in None args = None
 argument_in (Some place) args = argument_at place args
 

@@ -64,7 +64,7 @@ abbrev pub plain_values : List Argument → List ℕ
 plain_values values = plain_parts (parts_of values)
 
 -- a value for each field: the arguments in order, and nothing for the reserved ones
-abbrev pub first_of : FieldKind → List Argument → Argument
+abbrev first_of : FieldKind → List Argument → Argument
 first_of kind [] = nothing kind
 first_of kind (value ∷ args) = value
 
@@ -73,13 +73,13 @@ abbrev pub value_for : Bool → FieldKind → List Argument → Argument
 value_for true kind args = nothing kind
 value_for false kind args = first_of kind args
 
-abbrev pub left_by : Bool → List Argument → List Argument
-left_by true args = args
-left_by false args = drop 1 args
+abbrev pub args_left_by : Bool → List Argument → List Argument
+args_left_by true args = args
+args_left_by false args = drop 1 args
 
 abbrev pub complete : List FieldRow → List Argument → List Argument
 complete [] args = []
-complete (f ∷ fields) args = value_for f.reserved f.kind args ∷ complete fields (left_by f.reserved args)
+complete (f ∷ fields) args = value_for f.reserved f.kind args ∷ complete fields (args_left_by f.reserved args)
 
 -- a method
 abbrev pub plain_method : Call → List ℕ

@@ -12,7 +12,7 @@ pub record PropertyRow : Type 0 where
   pub name : List ℕ
   pub kind : FieldKind
 
-abbrev pub property : FieldKind → List ℕ → PropertyRow
+abbrev property : FieldKind → List ℕ → PropertyRow
 property kind name = record { name = name; kind = kind }
 
 -- the properties in order: the first has bit 15 of the flags, the last bit 2

@@ -17,7 +17,7 @@ use Rattle.amqp_method.specs.declared.fields.FieldKind.TheVariants.{Bit, Octet, 
 use Rattle.amqp_method.specs.declared.kinds.Kind.{Kind}
 
 -- What a call returned, seen by view, is what reading gives, unless memory ran out.
-abbrev pub Fails : {Y : Type 0} → MethodFault → Result Y MethodFault → Type 0
+abbrev Fails : {Y : Type 0} → MethodFault → Result Y MethodFault → Type 0
 Fails e read = (e ≡ out_of_memory) ⊎ (read ≡ Err e)
 
 abbrev pub Gives : {X Y : Type 0} → (X → Y) → Result X MethodFault → Result Y MethodFault → Type 0
@@ -45,8 +45,8 @@ abbrev pub ends_at : ℕ → List ℕ → MethodFault
 ends_at end octets = fault_at (end - length octets) (Value Ends)
 
 -- a number of n octets
-abbrev pub number_at : ℕ → Reader ℕ
-number_at n end octets =
+abbrev pub read_number : ℕ → Reader ℕ
+read_number n end octets =
     if nat_lt (length octets) n then Err (ends_at end octets) else Ok (big_number n octets, drop n octets)
 
 -- a length octet, and that many
@@ -82,20 +82,20 @@ abbrev pub next_bit : ℕ → ℕ → List ℕ → Result ((Argument × Bits) ×
 next_bit left packed octets = Ok ((bit (packed % 2 == 1), record { left = left; packed = packed / 2 }), octets)
 
 -- the next bit of a run
-abbrev pub bit_at : ℕ → ℕ → Reader (Argument × Bits)
-bit_at zero packed end octets = number_at 1 end octets >>= λ x. next_bit 7 x.0 x.1
-bit_at (suc left) packed end octets = next_bit left packed octets
+abbrev pub read_bit : ℕ → ℕ → Reader (Argument × Bits)
+read_bit zero packed end octets = read_number 1 end octets >>= λ x. next_bit 7 x.0 x.1
+read_bit (suc left) packed end octets = next_bit left packed octets
 
 abbrev pub ends_run : {X : Type 0} → (X → Argument) → Read X → Read (Argument × Bits)
 ends_run make read = read >>= λ x. Ok ((make x.0, no_bits), x.1)
 
 -- the value of a field
 unfoldable pub field_at : FieldKind → Bits → Reader (Argument × Bits)
-field_at Bit bits end octets = bit_at bits.left bits.packed end octets
-field_at Octet bits end octets = ends_run octet (number_at 1 end octets)
-field_at Short bits end octets = ends_run short (number_at 2 end octets)
-field_at Long bits end octets = ends_run long (number_at 4 end octets)
-field_at LongLong bits end octets = ends_run long_long (number_at 8 end octets)
+field_at Bit bits end octets = read_bit bits.left bits.packed end octets
+field_at Octet bits end octets = ends_run octet (read_number 1 end octets)
+field_at Short bits end octets = ends_run short (read_number 2 end octets)
+field_at Long bits end octets = ends_run long (read_number 4 end octets)
+field_at LongLong bits end octets = ends_run long_long (read_number 8 end octets)
 field_at ShortStr bits end octets = ends_run short_string (short_string_at end octets)
 field_at LongStr bits end octets = ends_run long_string (long_string_at end octets)
 field_at Table bits end octets = ends_run table (field_table_at end octets)
@@ -128,6 +128,6 @@ call_at end octets (Some kind) =
 -- a method
 unfoldable pub method_at : List ℕ → Result Call MethodFault
 method_at octets = do
-  class ← number_at 2 (length octets) octets
-  id ← number_at 2 (length octets) class.1
+  class ← read_number 2 (length octets) octets
+  id ← read_number 2 (length octets) class.1
   call_at (length octets) id.1 (kind_with class.0 id.0)

@@ -7,10 +7,10 @@ pub record ReplyRow : Type 0 where
   pub name : List ℕ
   pub hard : Bool
 
-abbrev pub reply : ℕ → List ℕ → ReplyRow
+abbrev reply : ℕ → List ℕ → ReplyRow
 reply code name = record { code = code; name = name; hard = false }
 
-abbrev pub hard_error : ℕ → List ℕ → ReplyRow
+abbrev hard_error : ℕ → List ℕ → ReplyRow
 hard_error code name = record { code = code; name = name; hard = true }
 
 abbrev pub reply_rows : List ReplyRow

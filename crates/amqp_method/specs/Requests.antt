@@ -23,7 +23,7 @@ abbrev pub is_request : Call → Bool
 is_request call = is_wanted call (wants call.kind)
 
 -- not of the classes connection and channel
-abbrev pub above_channels : Kind → Bool
+abbrev above_channels : Kind → Bool
 above_channels kind = nat_lt 20 (class_of kind)
 
 -- the request that a server's method answers
@@ -34,7 +34,7 @@ answered kind = cond (above_channels kind) (row kind).answers None
 abbrev pub is_reply : Kind → Bool
 is_reply kind = is_some (answered kind)
 
-abbrev pub is_kind : Kind → Option Kind → Bool
+abbrev is_kind : Kind → Option Kind → Bool
 is_kind kind (Some other) = same_kind kind other
 is_kind kind None = false
 
@@ -45,11 +45,11 @@ answers reply request = is_kind request (answered reply)
 -- ---- what the columns of answers and of fields say of it
 
 -- one of these kinds answers it
-abbrev pub is_answered_by : Kind → List Kind → Bool
+abbrev is_answered_by : Kind → List Kind → Bool
 is_answered_by kind [] = false
 is_answered_by kind (other ∷ later) = is_kind kind (row other).answers || is_answered_by kind later
 
-abbrev pub wanted_by : Option ℕ → Wanted
+abbrev wanted_by : Option ℕ → Wanted
 wanted_by (Some place) = UnlessNoWait place
 wanted_by None = Always
 

@@ -6,7 +6,7 @@ use Rattle.amqp_method.specs.Arguments.{Argument, bit, octet, short, long, long_
 use Rattle.amqp_method.specs.Kinds.{fields_of}
 use Rattle.amqp_method.specs.Messages.{Letter}
 use Rattle.amqp_method.specs.Methods.{FieldRow, row}
-use Rattle.amqp_method.specs.Plain.{left_by}
+use Rattle.amqp_method.specs.Plain.{args_left_by}
 use Rattle.amqp_method.specs.Properties.{PropertyRow, property_rows, ContentHeader}
 
 abbrev pub bit_text : Bool → List ℕ
@@ -29,7 +29,7 @@ abbrev pub named_text : List ℕ → Argument → List ℕ
 named_text name value = codes " " ++ (name ++ (codes "=" ++ argument_text value))
 
 -- the first of the arguments, under the name of its field; nothing for a reserved field
-abbrev pub first_text : List ℕ → List Argument → List ℕ
+abbrev first_text : List ℕ → List Argument → List ℕ
 first_text name [] = []
 first_text name (value ∷ args) = named_text name value
 
@@ -39,7 +39,7 @@ field_text false name args = first_text name args
 
 abbrev pub fields_text : List FieldRow → List Argument → List ℕ
 fields_text [] args = []
-fields_text (f ∷ fields) args = field_text f.reserved f.name args ++ fields_text fields (left_by f.reserved args)
+fields_text (f ∷ fields) args = field_text f.reserved f.name args ++ fields_text fields (args_left_by f.reserved args)
 
 -- `class.method` and the arguments
 abbrev pub text_of_method : Call → List ℕ

@@ -6,7 +6,7 @@ ghost use Rattle.amqp_method.specs.MessageView.{message_view};
 ghost use Rattle.amqp_method.specs.Lent.{value_view, lent_view, lent_views};
 ghost use Rattle.amqp_method.specs.MethodView.{method_view};
 ghost use Rattle.amqp_method.specs.Methods.{row};
-ghost use Rattle.amqp_method.specs.Plain.{left_by};
+ghost use Rattle.amqp_method.specs.Plain.{args_left_by};
 ghost use Rattle.amqp_method.specs.Rows.{field_view};
 ghost use Rattle.amqp_method.specs.Texts.{bit_text, argument_text, field_text, fields_text, text_of_method, space_text, parted, property_names, property_text, properties_text, text_of_properties, text_of_header, body_text, content_text, text_of_message};
 ghost use Rattle.amqp_method.specs.Views.{arg_view, args_view};
@@ -59,7 +59,7 @@ fn write_field<W: fmt::Write>(f: &mut fmt::Formatter<W>, field: &Field, args: &[
 
 /// The arguments after a field's: all of them, if it is reserved.
 fn args_after<'a>(field: &Field, args: &'a [Arg]) -> &'a [Arg]
-    ensures { args_view result.now ≡ left_by field.now.reserved (args_view args.now) }
+    ensures { args_view result.now ≡ args_left_by field.now.reserved (args_view args.now) }
 {
     if field.reserved {
         return args;

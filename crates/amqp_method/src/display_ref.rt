@@ -5,7 +5,7 @@ ghost use Rattle.amqp_method.specs.ArgRefView.{arg_ref_view};
 ghost use Rattle.amqp_method.specs.HeaderRefView.{lent_header, property_ref_view};
 ghost use Rattle.amqp_method.specs.MethodRefs.{args_left};
 ghost use Rattle.amqp_method.specs.MethodRefView.{lent_call};
-ghost use Rattle.amqp_method.specs.Plain.{left_by};
+ghost use Rattle.amqp_method.specs.Plain.{args_left_by};
 ghost use Rattle.amqp_method.specs.Rows.{field_view};
 ghost use Rattle.amqp_method.specs.Texts.{argument_text, field_text, fields_text, text_of_method, property_names, property_text, properties_text, text_of_header};
 
@@ -57,7 +57,7 @@ fn write_field_ref<W: fmt::Write>(
 
 /// The arguments that are left after a field's: all of them, if it is reserved.
 fn args_ref_after<'a>(field: &Field, args: ArgsRef<'a>) -> ArgsRef<'a>
-    ensures { args_left result ≡ left_by field.now.reserved (args_left args.entry) }
+    ensures { args_left result ≡ args_left_by field.now.reserved (args_left args.entry) }
 {
     if field.reserved {
         return args;

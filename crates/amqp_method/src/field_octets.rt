@@ -5,7 +5,7 @@ ghost use Rattle.byteorder.specs.Endian.{big_number};
 ghost use Rattle.amqp_method.specs.Arguments.{bit};
 ghost use Rattle.amqp_method.specs.BitsView.{bits_view};
 ghost use Rattle.amqp_method.specs.Faults.{in_table};
-ghost use Rattle.amqp_method.specs.Reading.{Equals, bit_at, ends_at, number_at, short_string_at, long_string_at, field_table_at, nothing_after, rest_of};
+ghost use Rattle.amqp_method.specs.Reading.{Equals, read_bit, ends_at, read_number, short_string_at, long_string_at, field_table_at, nothing_after, rest_of};
 
 use crate::faults::{MethodFault, MethodFaultKind};
 use amqp_value::{ValueFault, ValueFaultKind, check_table};
@@ -39,7 +39,7 @@ pub(crate) fn read_end(octets: &[u8], end: usize) -> Result<(), MethodFault>
 /// A number of one octet, and the octets after it.
 pub(crate) fn read_octet(octets: &[u8], end: usize) -> Result<(u8, &[u8]), MethodFault>
     requires { length octets.now ≤ end }
-    ensures read { Equals (λ x. (x.0, x.1.now)) result (number_at 1 end octets.now) }
+    ensures read { Equals (λ x. (x.0, x.1.now)) result (read_number 1 end octets.now) }
     ensures within { IfOk result (λ x. length x.1.now ≤ length octets.now) }
 {
     let Some((octet, after)) = octets.split_first() else {
@@ -51,7 +51,7 @@ pub(crate) fn read_octet(octets: &[u8], end: usize) -> Result<(u8, &[u8]), Metho
 /// A number of two octets, and the octets after it.
 pub(crate) fn read_short(octets: &[u8], end: usize) -> Result<(u16, &[u8]), MethodFault>
     requires { length octets.now ≤ end }
-    ensures read { Equals (λ x. (x.0, x.1.now)) result (number_at 2 end octets.now) }
+    ensures read { Equals (λ x. (x.0, x.1.now)) result (read_number 2 end octets.now) }
     ensures within { IfOk result (λ x. length x.1.now ≤ length octets.now) }
     ensures number { IfOk result (λ x. (2 ≤ length octets.now) × (x.0 ≡ big_number 2 octets.now)
         × (x.1.now ≡ drop 2 octets.now)) }
@@ -66,7 +66,7 @@ pub(crate) fn read_short(octets: &[u8], end: usize) -> Result<(u16, &[u8]), Meth
 /// A number of four octets, and the octets after it.
 pub(crate) fn read_long(octets: &[u8], end: usize) -> Result<(u32, &[u8]), MethodFault>
     requires { length octets.now ≤ end }
-    ensures read { Equals (λ x. (x.0, x.1.now)) result (number_at 4 end octets.now) }
+    ensures read { Equals (λ x. (x.0, x.1.now)) result (read_number 4 end octets.now) }
     ensures within { IfOk result (λ x. length x.1.now ≤ length octets.now) }
 {
     if octets.len() < 4 {
@@ -78,7 +78,7 @@ pub(crate) fn read_long(octets: &[u8], end: usize) -> Result<(u32, &[u8]), Metho
 /// A number of eight octets, and the octets after it.
 pub(crate) fn read_long_long(octets: &[u8], end: usize) -> Result<(u64, &[u8]), MethodFault>
     requires { length octets.now ≤ end }
-    ensures read { Equals (λ x. (x.0, x.1.now)) result (number_at 8 end octets.now) }
+    ensures read { Equals (λ x. (x.0, x.1.now)) result (read_number 8 end octets.now) }
     ensures within { IfOk result (λ x. length x.1.now ≤ length octets.now) }
     ensures number { IfOk result (λ x. (8 ≤ length octets.now) × (x.1.now ≡ drop 8 octets.now)) }
     ensures ends { IfErr result (λ e. (length octets.now < 8) × (e ≡ ends_at end octets.now)) }
@@ -174,7 +174,7 @@ pub(crate) fn read_bit<'a>(
 ) -> Result<(bool, &'a [u8]), MethodFault>
     requires { length octets.now ≤ end }
     ensures read { Equals (λ x. ((bit x.0, bits_view bits.new), x.1.now)) result
-        (bit_at bits.old.left bits.old.packed end octets.now) }
+        (read_bit bits.old.left bits.old.packed end octets.now) }
     ensures within { IfOk result (λ x. length x.1.now ≤ length octets.now) }
 {
     if bits.left == 0 {

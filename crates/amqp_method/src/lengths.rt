@@ -2,11 +2,11 @@
 ghost use Rattle.std.specs.Prelude.{◌≡◌, ◌+◌, length, map};
 ghost use Rattle.amqp_value.specs.Lengths.{capped};
 ghost use Rattle.amqp_method.specs.Arguments.{nothing, kind_of, long_string};
-ghost use Rattle.amqp_method.specs.FirstFault.{left_by as bits_left_by, left_by_bit};
+ghost use Rattle.amqp_method.specs.FirstFault.{bits_left_by as bits_left_by, left_by_bit};
 ghost use Rattle.amqp_method.specs.HeaderView.{properties_view};
 ghost use Rattle.amqp_method.specs.Lengths.{octets_of, octets_of_bit};
 ghost use Rattle.amqp_method.specs.Lent.{value_view, lent_view, lent_views};
-ghost use Rattle.amqp_method.specs.Plain.{plain_argument, plain_values, plain_property, plain_present, value_for, left_by, complete};
+ghost use Rattle.amqp_method.specs.Plain.{plain_argument, plain_values, plain_property, plain_present, value_for, args_left_by, complete};
 ghost use Rattle.amqp_method.specs.Rows.{field_view};
 ghost use Rattle.amqp_method.specs.Views.{arg_view, args_view};
 
@@ -121,7 +121,7 @@ fn with_field<'a>(before: Counted, field: &Field, args: &'a [Arg]) -> (Counted, 
         (args_view args.now)) before.left) }
     ensures left { result.0.left
         ≡ bits_left_by (kind_of (value_for field.now.reserved field.now.kind (args_view args.now))) before.left }
-    ensures after { args_view result.1.now ≡ left_by field.now.reserved (args_view args.now) }
+    ensures after { args_view result.1.now ≡ args_left_by field.now.reserved (args_view args.now) }
 {
     if field.reserved {
         return (with_nothing(before, field.kind), args);

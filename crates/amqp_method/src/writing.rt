@@ -3,7 +3,7 @@ ghost use Rattle.std.specs.Prelude.{◌≡◌, ◌+◌, ◌^◌, ◌<◌, ◌≤
 ghost use Rattle.amqp_method.specs.Arguments.{bit, octet, short, long, long_long, short_string, long_string, nothing, kind_of};
 ghost use Rattle.amqp_method.specs.Faults.{out_of_memory, too_long};
 ghost use Rattle.amqp_method.specs.GatheredView.{gathered};
-ghost use Rattle.amqp_method.specs.Plain.{plain_argument, CountFits, CountsAllFit, value_for, left_by, complete};
+ghost use Rattle.amqp_method.specs.Plain.{plain_argument, CountFits, CountsAllFit, value_for, args_left_by, complete};
 ghost use Rattle.amqp_method.specs.HeaderView.{table_argument};
 ghost use Rattle.amqp_method.specs.Rows.{field_view};
 ghost use Rattle.amqp_method.specs.Encoding.{EncodesArgument};
@@ -193,7 +193,7 @@ fn append_value<'a>(
         ++ written_for (value_for field.now.reserved field.now.kind (args_view args.now)) (gathered run)) }
     ensures after { IfOk result (λ x. gathered x.0 ≡ gathered_after
         (value_for field.now.reserved field.now.kind (args_view args.now)) (gathered run)) }
-    ensures left { IfOk result (λ x. args_view x.1.now ≡ left_by field.now.reserved (args_view args.now)) }
+    ensures left { IfOk result (λ x. args_view x.1.now ≡ args_left_by field.now.reserved (args_view args.now)) }
     ensures fits { OnOk result (Fitting (value_for field.now.reserved field.now.kind (args_view args.now))) }
     ensures too_long { result ≡ Err too_long → CountFits
         (value_for field.now.reserved field.now.kind (args_view args.now)) → ⊥ }

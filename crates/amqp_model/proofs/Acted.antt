@@ -6,7 +6,7 @@ use Rattle.amqp_model.specs.Wire.Frame.{Frame}
 use Rattle.amqp_model.specs.Wire.Notes.{Role, Kind, Open, OpenOk, Close, CloseOk, Note, Put, Took, Leaving, is_message}
 use Rattle.amqp_model.specs.History.States.{State, Opening, Closing}
 use Rattle.amqp_model.specs.History.Lives.{lives, has_left}
-use Rattle.amqp_model.specs.Pair.Carried.{At, takes, is_open, acts_next, acted_takes, messages, acted}
+use Rattle.amqp_model.specs.Pair.Carried.{At, takes, state_is_open, acts_next, acted_takes, messages, acted}
 use Rattle.amqp_model.specs.Output.Prefixes.{IsPrefixOf}
 use Rattle.amqp_model.proofs.Lists.{prefix_none, prefix_more, messages-append, messages_other, messages_elsewhere}
 use Rattle.amqp_model.proofs.Ends.{Is, Lawful, begun, has_asked, has_replied, has_taken, has_left_now, lawful_stands}
@@ -28,7 +28,7 @@ pub record Heard (role : Role) (history : List Note) (word : State) (n : ℕ) (m
 
 -- whether the end acts on what comes next
 pub acts_here : {role : Role} {history : List Note} {word : State} {n : ℕ} {a : Bool}
-    → Lawful role history (Is word n a) → has_left history ≡ false → acts_next role history ≡ is_open word
+    → Lawful role history (Is word n a) → has_left history ≡ false → acts_next role history ≡ state_is_open word
 acts_here {history = history} lawful here = simp (here, here_state history here (lawful_stands lawful))
 
 pub acts_left : (role : Role) (history : List Note) → has_left history ≡ true → acts_next role history ≡ false

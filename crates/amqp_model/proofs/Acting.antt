@@ -9,7 +9,7 @@ use Rattle.amqp_model.specs.Wire.Notes.{Note}
 use Rattle.amqp_model.specs.History.States.{State}
 use Rattle.amqp_model.specs.History.Lives.{has_left, state_by, state, awaits_flow_ok}
 use Rattle.amqp_model.specs.History.Verdict as lives
-use Rattle.amqp_model.specs.History.Verdict.{verdict_at, verdict, when_closing, when_free, when_opening, when_open}
+use Rattle.amqp_model.specs.History.Verdict.{verdict_at, verdict}
 use Rattle.amqp_model.specs.Pair.Carried.{Carry}
 use Rattle.amqp_model.specs.Pair.Runs.{IsNext, asks, takes, replies, may_put}
 use Rattle.amqp_model.specs.Wire.Methods.{Method, ReadsBack}

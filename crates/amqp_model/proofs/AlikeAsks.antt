@@ -5,17 +5,17 @@ use Rattle.amqp_model.specs.History.States.{State}
 use Rattle.amqp_model.specs.Wire.Notes.{Role, Client, Server}
 use Rattle.amqp_model.specs.Wire.Methods.{is_request, is_reply}
 use Rattle.amqp_model.specs.End.Channels as channels
-use Rattle.amqp_model.specs.End.Channels.{Life, Channel, Free, Opening, Closing, Phase, Handshake, Running, Closed}
+use Rattle.amqp_model.specs.End.Channels.{Life, Channel, Free, Opening, Closing, Phase, Closed}
 use Rattle.amqp_model.specs.End.Channels.{Failed, End, state_of}
 use Rattle.amqp_model.specs.End.Events.{method_of}
 use Rattle.amqp_model.specs.End.FrameVerdict.{answers_first}
-use Rattle.amqp_model.specs.End.Asks.{Ask, Open, Send, Flow, CloseChannel, Close, Blocked, Unblocked, Refusal}
+use Rattle.amqp_model.specs.End.Asks.{Ask, Open, Send, Flow, CloseChannel, Refusal}
 use Rattle.amqp_model.specs.End.Asks.{channel_max, life_of, lacks_life, in_life, is_free, first_free, lowest_free, when}
 use Rattle.amqp_model.specs.End.Asks.{first_refusal, is_pausable, opens_on, refused_or_put, refusal, frames_asked}
 use Rattle.amqp_model.specs.End.Asks.{ask_verdict, not_running, bad_channel, not_open, paused, not_sendable, too_large}
 use Rattle.amqp_model.specs.End.Asks.{flow_pending, no_free_channel, reply_pending, no_such_request, none_free}
 use Rattle.amqp_model.specs.End.Asks as asks
-use Rattle.amqp_model.specs.End.Answers.{state_in, first_of, due_by, due_in}
+use Rattle.amqp_model.specs.End.Answers.{state_in, first_request, due_by, due_in}
 use Rattle.amqp_model.specs.Lent.Alike.{AlikeLives, AlikeChannels}
 use Rattle.amqp_model.specs.Laws.StreamingLaws.{AsksAlike, AnswersAlike, SameOnChannel}
 use Rattle.amqp_model.proofs.AlikeVerdicts.{alike-end}
@@ -169,7 +169,7 @@ due-alike : (one other : Channel) → AlikeChannels one other → due_by one ≡
 due-alike Free Free a = refl
 due-alike Opening Opening a = refl
 due-alike Closing Closing a = refl
-due-alike (channels.Open one) (channels.Open other) a = ap first_of a.requests
+due-alike (channels.Open one) (channels.Open other) a = ap first_request a.requests
 due-alike one other a = absurd a
 
 due-in-alike : (phase : Phase) (one other : Channel) → AlikeChannels one other

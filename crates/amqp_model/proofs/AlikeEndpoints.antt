@@ -5,8 +5,8 @@ use Rattle.amqp_model.specs.Wire.Notes.{Role}
 use Rattle.amqp_model.specs.Wire.Frame.{Frame}
 use Rattle.amqp_model.specs.Wire.Readings.{reading}
 use Rattle.amqp_model.specs.End.Channels as channels
-use Rattle.amqp_model.specs.End.Channels.{Life, Channel, Free, Opening, Closing, Phase, Handshake, Running, Closed}
-use Rattle.amqp_model.specs.End.Channels.{Failed, End}
+use Rattle.amqp_model.specs.End.Channels.{Channel, Free, Opening, Closing}
+use Rattle.amqp_model.specs.End.Channels.{End}
 use Rattle.amqp_model.specs.History.Negotiation.{Config, frame_limit}
 use Rattle.amqp_model.specs.End.Closes.{frame_of}
 use Rattle.amqp_model.specs.End.Events.{Quiet, Fault, FrameVerdict, Proceeds, RefusesContent, Faults}
@@ -18,7 +18,7 @@ use Rattle.amqp_model.specs.End.EndVerdict.{facts_at, end_verdict}
 use Rattle.amqp_model.specs.Stream.Octets.{opening_read}
 use Rattle.amqp_model.specs.Stream.Endpoint.{Endpoint, Feeding, Outcome, Unfinished, Finished, Found, Comparison}
 use Rattle.amqp_model.specs.Stream.Endpoint.{Prefix, Same, Differs, Judgement, Begun, Whole, Wrong, judged, compared}
-use Rattle.amqp_model.specs.Stream.Endpoint.{awaits_opening, refusal_in, unless_over, goes_on_with, comes_to, greeting}
+use Rattle.amqp_model.specs.Stream.Endpoint.{awaits_opening, refusal_in, unless_over, holds_octets, comes_to, owed_at_start}
 use Rattle.amqp_model.specs.Stream.Endpoint.{after_opening, outcome_of, fault_told, owed_at_fault, after_judged}
 use Rattle.amqp_model.specs.Stream.Endpoint.{after_octets, after_octet, fed_after, after_feed, after_answer, after_ask}
 use Rattle.amqp_model.specs.End.Machine.{end_after_owed}
@@ -155,7 +155,7 @@ comes-alike one other this that put puts outcome others out a same e =
 
 module _ (role : Role) (config : Config role) (one : Endpoint) (others : ℕ → Channel) (each : Each one others) where
   goes-alike : (octets : List ℕ)
-      → AlikeFeedings (goes_on_with one octets) (goes_on_with (with_channels one others) octets)
+      → AlikeFeedings (holds_octets one octets) (holds_octets (with_channels one others) octets)
   goes-alike octets =
       record {
         endpoint = record { end = ends-alike one others each; unfinished = refl; output = refl };
@@ -168,9 +168,9 @@ module _ (role : Role) (config : Config role) (one : Endpoint) (others : ℕ →
       (after_opening role config (with_channels one others) octets c)
   opening-alike octets Prefix = goes-alike octets
   opening-alike octets Same =
-      comes-alike one (with_channels one others) _ _ (map frame_of (greeting role config))
-      (map frame_of (greeting role config)) (Finished (Some Quiet)) (Finished (Some Quiet)) refl
-      (puts-leave-alike role config one.end (with_channels one others).end (greeting role config)
+      comes-alike one (with_channels one others) _ _ (map frame_of (owed_at_start role config))
+      (map frame_of (owed_at_start role config)) (Finished (Some Quiet)) (Finished (Some Quiet)) refl
+      (puts-leave-alike role config one.end (with_channels one others).end (owed_at_start role config)
       (ends-alike one others each)) refl refl
   opening-alike octets Differs =
       record {

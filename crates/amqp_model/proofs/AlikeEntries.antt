@@ -13,14 +13,14 @@ use Rattle.amqp_model.specs.History.Histories.{ChannelEntry, PutHere, TookHere, 
 use Rattle.amqp_model.specs.History.Replies.{one_if, completes_reply, answered_by, asked_by}
 use Rattle.amqp_model.specs.End.Channels as channels
 use Rattle.amqp_model.specs.End.Channels.{Life, Channel, Free, Opening, Closing, Phase, Handshake, Running, Closed}
-use Rattle.amqp_model.specs.End.Channels.{Failed, Agreed, End}
+use Rattle.amqp_model.specs.End.Channels.{Failed, End}
 use Rattle.amqp_model.specs.History.Negotiation.{Config}
 use Rattle.amqp_model.specs.End.Closes.{Owed, frame_of}
 use Rattle.amqp_model.specs.End.Events.{FrameVerdict, Proceeds, RefusesContent, Faults}
 use Rattle.amqp_model.specs.End.FrameVerdict.{methods_put}
 use Rattle.amqp_model.specs.End.EndVerdict.{facts_at}
 use Rattle.amqp_model.specs.End.Machine.{paused_after, awaits_after, with_asked, requests_after, life_after}
-use Rattle.amqp_model.specs.End.Machine.{open_after_putting, open_after_taking, after_put, after_taken, channel_after}
+use Rattle.amqp_model.specs.End.Machine.{open_after_putting, open_after_taking, channel_after_put, after_taken, channel_after}
 use Rattle.amqp_model.specs.End.Machine.{unless_leaving, end_after, end_after_owed, end_after_put, failed_by, as_failed}
 use Rattle.amqp_model.specs.End.Machine.{taken_verdict}
 use Rattle.amqp_model.specs.Lent.Alike.{AlikeLives, AlikeChannels, AlikeEnds, VerdictTelling, Proceeding, Refusing}
@@ -145,8 +145,8 @@ open-taken role entry one other (FlowOk active) a = life-stays-alike role entry 
 open-taken role entry one other (Other begins) a = life-stays-alike role entry one other a
 
 put-alike : (role : Role) (entry : ChannelEntry) (one other : Channel) (kind : Kind) → AlikeChannels one other
-    → AlikeChannels (after_put role entry one kind) (after_put role entry other kind)
-put-alike role entry Free Free kind a = channel-itself (after_put role entry Free kind)
+    → AlikeChannels (channel_after_put role entry one kind) (channel_after_put role entry other kind)
+put-alike role entry Free Free kind a = channel-itself (channel_after_put role entry Free kind)
 put-alike role entry Opening Opening kind a = tt
 put-alike role entry Closing Closing kind a = tt
 put-alike role entry (channels.Open one) (channels.Open other) kind a = open-put role entry one other kind a

@@ -1,6 +1,6 @@
 -- How much an end keeps of contents, at most.
 use Rattle.std.proofs.Common.{◌≡◌, ◌<◌, ◌≤◌, ◌+◌, ◌*◌, Bool, true, false, ℕ, zero, suc}
-use Rattle.std.proofs.Common.{nat_le, arith, List, [], ◌++◌, length, refl, sym, ap, ◌∙◌, subst, All}
+use Rattle.std.proofs.Common.{nat_le, arith, List, ◌++◌, length, refl, sym, ap, subst, All}
 use Rattle.std.proofs.Math.Nat.{mul-le-mul_right}
 use Rattle.std.proofs.lemmas.Bool.{leb-true, leb-false}
 use Rattle.amqp_frame.specs.Splitting.{stream}
@@ -9,15 +9,13 @@ use Rattle.amqp_model.specs.Wire.Notes.{Role}
 use Rattle.amqp_model.specs.History.Histories.{History}
 use Rattle.amqp_model.specs.History.Negotiation.{Config, frame_limit}
 use Rattle.amqp_model.specs.End.Amounts.{body_octets_on, contents_kept, header_octets_on, sum_to}
-use Rattle.amqp_model.specs.End.Answers.{kept_by}
 use Rattle.amqp_model.specs.End.Asks.{channel_max}
 use Rattle.amqp_model.specs.End.Bounds.{ChannelIsWithin, EndIsWithin, KeepsPart}
 use Rattle.amqp_model.specs.End.Channels.{Channel, Free, Opening, Closing, End}
 use Rattle.amqp_model.specs.End.Channels as channels
 use Rattle.amqp_model.specs.End.Numbers.{NoneAbove}
 use Rattle.amqp_model.specs.Laws.AmountLaws.{most_contents, ContentsAreWithin}
-use Rattle.amqp_model.specs.Laws.OctetLaws.{EndpointStandsFor, IsOctet}
-use Rattle.amqp_model.specs.Stream.Endpoint.{Endpoint}
+use Rattle.amqp_model.specs.Laws.OctetLaws.{IsOctet}
 use Rattle.amqp_model.specs.Stream.Octets.{frames_taken, opening_read, FedAs, in_opening, in_frames}
 use Rattle.amqp_model.proofs.Bounding.{stands-within}
 use Rattle.amqp_model.proofs.HeaderBounds.{first-all, later-all, stands-headers, took-octets, HeadersAreWithin}

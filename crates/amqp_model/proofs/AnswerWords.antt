@@ -12,7 +12,7 @@ use Rattle.amqp_model.specs.End.Channels.{Closed, Failed, End, state_of}
 use Rattle.amqp_model.specs.End.Channels as channels
 use Rattle.amqp_model.specs.History.Negotiation.{Config}
 use Rattle.amqp_model.specs.End.Asks.{channel_max}
-use Rattle.amqp_model.specs.End.Answers.{state_in, kept_by, kept_in, due_by, due_in, gathered}
+use Rattle.amqp_model.specs.End.Answers.{state_in, kept_by, kept_in, due_by, due_in, octets_gathered}
 use Rattle.amqp_model.specs.End.EndVerdict.{takes_octets}
 use Rattle.amqp_model.specs.End.Machine.{ChannelStandsFor, CountsOpen, StandsFor}
 use Rattle.amqp_model.specs.Laws.AnswersInWords.{taken_on, StateIsOfNotes, ClosedIsFree, GatheredIsUnderWay}
@@ -54,7 +54,7 @@ closed-is-free end n e =
 content-is : (role : Role) (config : Config role) (end : End) (history : History) (n : ℕ) (life : Life)
     → StandsFor role config false end history → end.phase ≡ Running
     → end.channels (suc n) ≡ channels.Open life
-    → gathered end (suc n) ≡ length (kept (gathering (taken_on (suc n) history)))
+    → octets_gathered end (suc n) ≡ length (kept (gathering (taken_on (suc n) history)))
 content-is role config end history n life stands runs opened =
     ap (λ phase. length (kept_in phase (end.channels (suc n)))) runs
     ∙ (ap (λ channel. length (kept_by channel)) opened ∙ ap (λ content. length (kept content)) (sym counts.content

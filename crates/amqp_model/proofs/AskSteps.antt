@@ -7,12 +7,12 @@ use Rattle.amqp_method.specs.declared.kinds.Kind.TheVariants as kinds
 use Rattle.amqp_model.specs.Wire.Frame.{Frame}
 use Rattle.amqp_model.specs.Wire.Notes.{Role, Client, Server, Other}
 use Rattle.amqp_model.specs.Wire.Methods.{MethodKind, Method, header_at, ReadsBack, is_request, is_reply, class_of}
-use Rattle.amqp_model.specs.Wire.Methods.{begins_content, sort_by, carries_content, same_kind, bit_at}
+use Rattle.amqp_model.specs.Wire.Methods.{carries_content, same_kind, bit_at}
 use Rattle.amqp_model.specs.Wire.Methods as methods
 use Rattle.amqp_model.specs.Wire.Contents.{Payload, pieces, room_in}
 use Rattle.amqp_model.specs.Wire.Readings.{Reading, Calls, reading, header_reading, kind_of}
 use Rattle.amqp_model.specs.History.Histories.{Put, History, PutHere}
-use Rattle.amqp_model.specs.End.Channels.{Life, Channel, Phase, Handshake, Running, Closed, Failed, End}
+use Rattle.amqp_model.specs.End.Channels.{Life, Phase, Handshake, Running, Closed, Failed, End}
 use Rattle.amqp_model.specs.End.Channels as channels
 use Rattle.amqp_model.specs.History.Negotiation.{Config}
 use Rattle.amqp_model.specs.End.Closes.{Cause, method_frame, flow_as, close_for, without_arguments}
@@ -23,7 +23,7 @@ use Rattle.amqp_model.specs.End.Asks.{in_life, method_asked, refusal, frames_ask
 use Rattle.amqp_model.specs.End.Asks.{reply_pending, no_such_request, is_made, Puts, ask_verdict}
 use Rattle.amqp_model.specs.End.LawfulHistories.{then_put}
 use Rattle.amqp_model.specs.History.Replies.{request_made}
-use Rattle.amqp_model.specs.End.Machine.{is_open, life_after, open_after_putting, channel_after, answers_in_turn}
+use Rattle.amqp_model.specs.End.Machine.{is_open_method, life_after, open_after_putting, channel_after, answers_in_turn}
 use Rattle.amqp_model.specs.End.Machine.{may_put_here, end_after, end_after_put}
 use Rattle.amqp_model.specs.Laws.EndLaws.{AskFollows}
 use Rattle.amqp_model.proofs.Acting.{reads-back}
@@ -111,7 +111,7 @@ module _ (P : (role : Role) → Config role → End → History → Type 0) (k :
       may : may_put_here role (end.channels frame.channel) (reading frame) ≡ true
       may =
           subst (λ channel. may_put_here role channel (reading frame) ≡ true) (sym (ap end.channels here ∙ opened))
-          (let closed : is_open (kind_of (reading frame)) ≡ false = ap is_open kind in simp (closed, in_turn))
+          (let closed : is_open_method (kind_of (reading frame)) ≡ false = ap is_open_method kind in simp (closed, in_turn))
 
       new : (new : Life)
           × (channel_after role (PutHere (reading frame) frame) (channels.Open life) ≡ channels.Open new)

@@ -16,7 +16,7 @@ use Rattle.amqp_model.specs.Wire.Contents.{Payload, pieces, room_in}
 use Rattle.amqp_model.specs.Wire.Readings.{Calls, reading, header_reading, is_call, kind_of, kind_of_method}
 use Rattle.amqp_model.specs.History.Histories.{Put, History, ChannelEntry, PutHere, LeftHere, closes_connection}
 use Rattle.amqp_model.specs.History.Histories.{entries_on, notes, entries_before_leaving}
-use Rattle.amqp_model.specs.End.Channels.{Life, Channel, Phase, Handshake, Running, Closed, Failed, HandshakeStep, End}
+use Rattle.amqp_model.specs.End.Channels.{Life, Channel, Phase, Handshake, Running, End}
 use Rattle.amqp_model.specs.End.Channels as channels
 use Rattle.amqp_model.specs.History.Negotiation.{Config}
 use Rattle.amqp_model.specs.End.StateFromHistory.{has_put, is_closed, is_negotiated, step_from, life_from, channel_in}

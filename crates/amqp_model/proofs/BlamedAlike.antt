@@ -10,7 +10,7 @@ use Rattle.amqp_model.specs.Wire.Readings.{Reading, Calls, UnknownMethod, Malfor
 use Rattle.amqp_model.specs.Wire.Readings.{BodyOf, Beat, kind_of, payload_of}
 use Rattle.amqp_model.specs.End.Channels as channels
 use Rattle.amqp_model.specs.End.Channels.{Life, Channel, Free, Opening, Closing, Phase, Handshake, Running, Closed}
-use Rattle.amqp_model.specs.End.Channels.{Failed, Agreed, End}
+use Rattle.amqp_model.specs.End.Channels.{Failed, Agreed}
 use Rattle.amqp_model.specs.History.Negotiation.{Config}
 use Rattle.amqp_model.specs.End.FrameVerdict.{Facts, is_no_channel}
 use Rattle.amqp_model.specs.End.EndVerdict.{facts_at}

@@ -21,10 +21,10 @@ use Rattle.amqp_model.specs.End.Channels.{AwaitsOpenOk, Agreed}
 use Rattle.amqp_model.specs.History.Negotiation.{Config, tunes_too_small, agreed_in, in_range}
 use Rattle.amqp_model.specs.End.Closes.{CloseCode, connection_close_ok}
 use Rattle.amqp_model.specs.End.Events as Events
-use Rattle.amqp_model.specs.End.Events.{Event, Fault, AlreadyClosed, AlreadyFailed, FrameVerdict, Proceeds}
+use Rattle.amqp_model.specs.End.Events.{Event, Fault, FrameVerdict, Proceeds}
 use Rattle.amqp_model.specs.End.Events.{RefusesContent, Faults}
 use Rattle.amqp_model.specs.End.FrameVerdict.{Facts, MOST_REQUESTS, first_of, when_over, when_leaving, when_heartbeat}
-use Rattle.amqp_model.specs.End.FrameVerdict.{as_lives, lives_verdict, when_closing, when_unread, is_awaited, asked_or}
+use Rattle.amqp_model.specs.End.FrameVerdict.{as_lives, lives_verdict, when_channel_closing, when_unread, is_awaited, asked_or}
 use Rattle.amqp_model.specs.End.FrameVerdict.{on_awaited, when_handshake, awaits_in, is_no_channel, after_part, on_part}
 use Rattle.amqp_model.specs.End.FrameVerdict.{part_on, when_content, on_connection, when_connection, when_misdirected}
 use Rattle.amqp_model.specs.End.FrameVerdict.{when_no_channel, on_message, answers_first, on_matched, on_idle}
@@ -150,7 +150,7 @@ verdict-agrees {role} facts r kind =
     lives-agree role facts.number r (state_of facts.channel) (awaits_in facts.channel) kind
 
 closing-agree : {role : Role} (facts : Facts role) (channel : Channel) (r : Reading) → facts.channel ≡ channel
-    → RulesAgree (when_closing facts channel r) (closing_finding channel)
+    → RulesAgree (when_channel_closing facts channel r) (closing_finding channel)
 closing-agree {role} facts channels.Closing r e =
     subst (λ c. Agree (as_lives facts.number r (verdict_at role (state_of c) (awaits_in c) (kind_of r))) None) (sym e)
     (lives-agree role facts.number r State.Closing false (kind_of r))
@@ -293,7 +293,7 @@ agree facts r e =
     (when_over facts.phase
     ∷ when_leaving facts.phase facts.number r
     ∷ when_heartbeat facts.number r
-    ∷ when_closing facts facts.channel r
+    ∷ when_channel_closing facts facts.channel r
     ∷ when_unread r
     ∷ when_handshake facts facts.phase r
     ∷ when_content facts r

@@ -12,9 +12,9 @@ use Rattle.amqp_model.specs.Wire.Methods.{ReadsBack}
 use Rattle.amqp_model.specs.Wire.Readings.{Calls}
 use Rattle.amqp_model.specs.History.Histories.{Put, History, PutHere}
 use Rattle.amqp_model.specs.End.Channels as channels
-use Rattle.amqp_model.specs.End.Channels.{Life, Phase, Handshake, Running, Closed, End, HandshakeStep}
-use Rattle.amqp_model.specs.End.Channels.{AwaitsProtocolHeader, AwaitsStart, AwaitsStartOk, AwaitsTune, AwaitsTuneOk}
-use Rattle.amqp_model.specs.End.Channels.{HoldsStart, HoldsLogin, HoldsOpen, Agreed}
+use Rattle.amqp_model.specs.End.Channels.{Life, Phase, Handshake, Running, End, HandshakeStep}
+use Rattle.amqp_model.specs.End.Channels.{AwaitsProtocolHeader, AwaitsStartOk, AwaitsTune, AwaitsTuneOk}
+use Rattle.amqp_model.specs.End.Channels.{HoldsStart, HoldsLogin, HoldsOpen}
 use Rattle.amqp_model.specs.History.Negotiation.{Config}
 use Rattle.amqp_model.specs.History.Negotiation as negotiation
 use Rattle.amqp_model.specs.End.StateFromHistory.{end_from}

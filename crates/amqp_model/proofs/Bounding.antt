@@ -32,7 +32,7 @@ use Rattle.amqp_model.specs.End.Answers.{kept_by, kept_in}
 use Rattle.amqp_model.specs.End.ReadingBack.{WritesReadBack}
 use Rattle.amqp_model.specs.End.LawfulHistories.{end_of, Goes, greets, takes, faults, meets_too_large, fails, asks}
 use Rattle.amqp_model.specs.End.LawfulHistories.{controls, Lawful, begun as at_start, goes}
-use Rattle.amqp_model.specs.End.Machine.{with_asked, life_after, free_after_putting, after_put, after_taken}
+use Rattle.amqp_model.specs.End.Machine.{with_asked, life_after, free_after_putting, channel_after_put, after_taken}
 use Rattle.amqp_model.specs.End.Machine.{unless_leaving, set_channel, new_end, end_after, end_after_owed, failed_by}
 use Rattle.amqp_model.specs.End.Machine.{StandsFor}
 use Rattle.amqp_model.specs.Laws.EndLaws.{is_over, AgreesWithLives, agrees, refuses}
@@ -86,7 +86,7 @@ put-life Server max life r frame w may =
 
 put-within : (role : Role) (max : ℕ) (channel : Channel) (r : Reading) (frame : Frame) (kind : Kind)
     → ChannelIsWithin role max channel → may_ask_here role channel r ≡ true
-    → ChannelIsWithin role max (after_put role (PutHere r frame) channel kind)
+    → ChannelIsWithin role max (channel_after_put role (PutHere r frame) channel kind)
 put-within Client max Free r frame Open w may = tt
 put-within role max Free r frame kind w may = tt
 put-within role max Opening r frame kind w may = tt
@@ -378,7 +378,7 @@ module _ (role : Role) (config : Config role) (end : End) (m : ℕ) (frame : Fra
       closes : (phase : Phase) → is_over phase ≡ false → (old : Channel)
           → ChannelIsWithin role config.max_body
           (unless_leaving phase old
-          (after_put role (PutHere (Calls (channel_close (suc m) ContentTooLarge).method)
+          (channel_after_put role (PutHere (Calls (channel_close (suc m) ContentTooLarge).method)
           (frame_of (channel_close (suc m) ContentTooLarge))) old Close))
       closes Phase.Closing e old = absurd (true≢false e)
       closes Closed e old = absurd (true≢false e)
@@ -399,7 +399,7 @@ module _ (role : Role) (config : Config role) (end : End) (m : ℕ) (frame : Fra
       refused : (n : ℕ) (b : Bool)
           → ChannelIsWithin role config.max_body
           (cond b (unless_leaving end.phase (then_end.channels (suc m))
-          (after_put role (PutHere (Calls (channel_close (suc m) ContentTooLarge).method)
+          (channel_after_put role (PutHere (Calls (channel_close (suc m) ContentTooLarge).method)
           (frame_of (channel_close (suc m) ContentTooLarge))) (then_end.channels (suc m)) Close))
           (cond b (unless_leaving end.phase (end.channels (suc m))
           (after_taken role (TookHere (reading frame) frame) (end.channels (suc m)) (kind_of (reading frame))))

@@ -6,7 +6,7 @@ use Rattle.amqp_model.specs.Wire.Frame.{Frame}
 use Rattle.amqp_model.specs.Wire.Notes.{Role, Kind, Close, Note, Put, Took, Leaving}
 use Rattle.amqp_model.specs.History.States.{State, Free, Opening, Closing}
 use Rattle.amqp_model.specs.History.Lives.{lives, has_left}
-use Rattle.amqp_model.specs.Pair.Carried.{is_open, acts_next, acted_takes, acted}
+use Rattle.amqp_model.specs.Pair.Carried.{state_is_open, acts_next, acted_takes, acted}
 use Rattle.amqp_model.specs.Pair.Runs.{RunAt}
 use Rattle.amqp_model.specs.Laws.LifeLaws.{ActsOnNothingAfterItsClose, ActsOnNothingAfterLeaving}
 use Rattle.amqp_model.proofs.Lists.{messages_elsewhere}
@@ -18,14 +18,14 @@ use Rattle.amqp_model.proofs.Ended.{IsPast, closing, past_opens, past_closes, pa
 
 -- a channel that is Open keeps its life as it takes a note
 open_stays : {role : Role} {word word' : State} {n n' : ℕ} {a a' : Bool} {kind : Kind} {owed : Option Kind}
-    → Taking role (Is word n a) kind owed (Is word' n' a') → is_open word ≡ true → n' ≡ n
+    → Taking role (Is word n a) kind owed (Is word' n' a') → state_is_open word ≡ true → n' ≡ n
 open_stays ends e = refl
 open_stays pauses e = refl
 open_stays hears e = refl
 open_stays acts e = refl
 open_stays _ e = absurd (false≢true e)
 
-past_open : {n m : ℕ} (word : State) → IsPast n word m → is_open word ≡ true → n < m
+past_open : {n m : ℕ} (word : State) → IsPast n word m → state_is_open word ≡ true → n < m
 past_open State.Open past e = open_beyond past
 past_open Free past e = absurd (false≢true e)
 past_open Opening past e = absurd (false≢true e)
@@ -42,7 +42,7 @@ past_acted {role} {history} {word} {word'} {n} {m} {m'} {kind = kind} frame lawf
     life : lives role (Took kind frame ∷ history) ≡ m'
     life = lawful_lives (has_taken frame lawful taking)
 
-    elsewhere : is_open word ≡ true → lives role (Took kind frame ∷ history) ≡ n → ⊥
+    elsewhere : state_is_open word ≡ true → lives role (Took kind frame ∷ history) ≡ n → ⊥
     elsewhere e same =
         let lt = past_open word past e in
         let stays = open_stays taking e in

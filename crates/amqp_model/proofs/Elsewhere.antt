@@ -12,8 +12,8 @@ use Rattle.amqp_model.specs.Wire.Gathering.{Gathering, HeaderDue, Step, Keeps, C
 use Rattle.amqp_model.specs.Wire.Readings.{Reading, Calls, UnknownMethod, MalformedMethod, HeaderOf, MalformedHeader}
 use Rattle.amqp_model.specs.Wire.Readings.{BodyOf, Beat, reading, is_call, kind_of, payload_of}
 use Rattle.amqp_model.specs.History.Histories.{Put, History, closes_connection, entries_on}
-use Rattle.amqp_model.specs.End.Channels.{Life, Channel, Free, Opening, Closing, state_of, Phase, Handshake, Running}
-use Rattle.amqp_model.specs.End.Channels.{Closed, Failed, Agreed, AwaitsProtocolHeader, AwaitsStart, AwaitsStartOk}
+use Rattle.amqp_model.specs.End.Channels.{Life, Channel, Free, Closing, state_of, Phase, Handshake}
+use Rattle.amqp_model.specs.End.Channels.{Closed, Failed, Agreed, AwaitsStart, AwaitsStartOk}
 use Rattle.amqp_model.specs.End.Channels.{AwaitsTune, AwaitsTuneOk, AwaitsOpen, AwaitsOpenOk}
 use Rattle.amqp_model.specs.End.Channels as channels
 use Rattle.amqp_model.specs.History.Negotiation.{Config, Hello, OfClient, start_ok, connection_open, tunes_too_small}
@@ -24,7 +24,7 @@ use Rattle.amqp_model.specs.End.FrameVerdict.{Facts, first_of, awaits_in, as_liv
 use Rattle.amqp_model.specs.End.FrameVerdict.{on_awaited, is_awaited, on_connection, by_state, on_open, on_idle}
 use Rattle.amqp_model.specs.End.FrameVerdict.{on_matched, part_on, on_part, after_part, on_message, is_no_channel}
 use Rattle.amqp_model.specs.End.FrameVerdict.{is_gathering, on_rest, when_over, when_leaving, when_heartbeat}
-use Rattle.amqp_model.specs.End.FrameVerdict.{when_closing, when_unread, when_handshake, when_content, when_connection}
+use Rattle.amqp_model.specs.End.FrameVerdict.{when_channel_closing, when_unread, when_handshake, when_content, when_connection}
 use Rattle.amqp_model.specs.End.FrameVerdict.{when_misdirected, when_no_channel, answers_first, MOST_REQUESTS}
 use Rattle.amqp_model.specs.End.FrameVerdict.{verdict_on, methods_put}
 use Rattle.amqp_model.specs.End.EndVerdict.{goes_on}
@@ -175,7 +175,7 @@ module _ {role : Role} (facts : Facts role) (P : Owed → Type 0) (at_zero : (me
   beat (Beat empty) = either ((facts.number == 0) && empty) _ _ (λ g. tt) (λ g. absurd (false≢true g))
   beat r = tt
 
-  closing : (channel : Channel) (r : Reading) → MayAway (when_closing facts channel r)
+  closing : (channel : Channel) (r : Reading) → MayAway (when_channel_closing facts channel r)
   closing Closing r = lives-away r (verdict_at role (state_of facts.channel) (awaits_in facts.channel) (kind_of r))
   closing channel r = tt
 
@@ -316,7 +316,7 @@ module _ {role : Role} (facts : Facts role) (P : Owed → Type 0) (at_zero : (me
       after (when_over facts.phase) _ _ (over facts.phase)
       (after (when_leaving facts.phase facts.number r) _ _ (leaving facts.phase r is)
       (after (when_heartbeat facts.number r) _ _ (beat r)
-      (after (when_closing facts facts.channel r) _ _ (closing facts.channel r)
+      (after (when_channel_closing facts facts.channel r) _ _ (closing facts.channel r)
       (after (when_unread r) _ _ (unread r)
       (after (when_handshake facts facts.phase r) _ _ (handshake facts.phase r is)
       (after (when_content facts r) _ _ (content r) (rest r is)))))))

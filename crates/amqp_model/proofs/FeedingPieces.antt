@@ -26,7 +26,7 @@ use Rattle.amqp_model.specs.End.EndVerdict.{facts_at, end_verdict, takes_octets}
 use Rattle.amqp_model.specs.Stream.Octets.{opening_read}
 use Rattle.amqp_model.specs.Stream.Endpoint.{Judgement, Begun, Whole, Wrong, judged, Comparison, Prefix, Same, Differs}
 use Rattle.amqp_model.specs.Stream.Endpoint.{compared, Endpoint, Outcome, Unfinished, Finished, Found, Feeding}
-use Rattle.amqp_model.specs.Stream.Endpoint.{refusal_in, unless_over, goes_on_with, awaits_opening, after_opening}
+use Rattle.amqp_model.specs.Stream.Endpoint.{refusal_in, unless_over, holds_octets, awaits_opening, after_opening}
 use Rattle.amqp_model.specs.Stream.Endpoint.{outcome_of, after_judged, after_octets, after_octet, fed_after, after_feed}
 use Rattle.amqp_model.specs.Laws.OctetLaws.{IsOctet, IsJudgedWell, then_fed}
 use Rattle.amqp_model.specs.Stream.Pieces.{IsProperPrefixOf, reads_frames, AreBegun, with_taken, IsFedBy}
@@ -139,17 +139,17 @@ octet-compared role config endpoint octet c r a e =
 data AllGoOn (role : Role) (config : Config role) : Endpoint → List ℕ → Type 0 where
   none : {endpoint : Endpoint} → AllGoOn role config endpoint []
   more : {endpoint : Endpoint} {octet : ℕ} {later : List ℕ} → after_octet role config endpoint octet
-      ≡ goes_on_with endpoint (endpoint.unfinished ++ octet ∷ [])
+      ≡ holds_octets endpoint (endpoint.unfinished ++ octet ∷ [])
       → AllGoOn role config (with_unfinished endpoint (endpoint.unfinished ++ octet ∷ [])) later
       → AllGoOn role config endpoint (octet ∷ later)
 
 all-taken : (role : Role) (config : Config role) (endpoint : Endpoint) (piece : List ℕ)
     → refusal_in endpoint.end.phase ≡ None → AllGoOn role config endpoint piece
     → after_feed role config endpoint piece
-    ≡ with_taken (length piece) (goes_on_with endpoint (endpoint.unfinished ++ piece))
+    ≡ with_taken (length piece) (holds_octets endpoint (endpoint.unfinished ++ piece))
 all-taken role config endpoint [] r none =
     ap (λ refusal. unless_over endpoint refusal (record { endpoint = endpoint; taken = 0; outcome = Unfinished })) r
-    ∙ ap (λ xs. with_taken 0 (goes_on_with endpoint xs)) (sym (append-nil endpoint.unfinished))
+    ∙ ap (λ xs. with_taken 0 (holds_octets endpoint xs)) (sym (append-nil endpoint.unfinished))
 all-taken role config endpoint (octet ∷ later) r (more first rest) =
     ap (λ (feeding : Feeding). fed_after feeding feeding.outcome (after_feed role config feeding.endpoint later)) first
     ∙ (ap (λ (feeding : Feeding). record {
@@ -158,7 +158,7 @@ all-taken role config endpoint (octet ∷ later) r (more first rest) =
       outcome = feeding.outcome;
     })
     (all-taken role config (with_unfinished endpoint (endpoint.unfinished ++ octet ∷ [])) later r rest)
-    ∙ ap (λ xs. with_taken (suc (length later)) (goes_on_with endpoint xs))
+    ∙ ap (λ xs. with_taken (suc (length later)) (holds_octets endpoint xs))
     (append_assoc endpoint.unfinished (octet ∷ []) later))
 
 rest-goes-on : (role : Role) (config : Config role) (endpoint : Endpoint) (piece : List ℕ)
@@ -197,7 +197,7 @@ ends-at role config endpoint before octet rest new r goes e some =
     cut-goes-on role config endpoint before (octet ∷ rest) (ap (λ (feeding : Feeding). feeding.outcome) so_far)
     ∙ (ap (λ (feeding : Feeding). then_fed feeding (after_feed role config feeding.endpoint (octet ∷ rest))) so_far
     ∙ ap (λ (feeding : Feeding).
-    then_fed (with_taken (length before) (goes_on_with endpoint (endpoint.unfinished ++ before))) feeding)
+    then_fed (with_taken (length before) (holds_octets endpoint (endpoint.unfinished ++ before))) feeding)
     (ap (λ (feeding : Feeding). fed_after feeding feeding.outcome (after_feed role config feeding.endpoint rest)) e
     ∙ fed-first new (after_feed role config new.endpoint rest) new.outcome some))
 
@@ -348,7 +348,7 @@ feed-waits role config endpoint stream piece taken fed waits =
     all-taken role config endpoint piece can.0
     (rest-goes-on role config endpoint piece can.0 can.1
     (All-append IsOctet endpoint.unfinished piece (fed.holds.of_frame fed.reads).are_octets fed.are_octets) rest)
-    ∙ ap (λ taken. with_taken taken (goes_on_with endpoint (endpoint.unfinished ++ piece))) (sym waits.all)
+    ∙ ap (λ taken. with_taken taken (holds_octets endpoint (endpoint.unfinished ++ piece))) (sym waits.all)
 
 -- what a longer row tells first is told first by its prefix that has the octet
 told-prefix : (limit : ℕ) (xs ys : List ℕ) (kind : FrameFaultKind) (place : ℕ) → length xs ≡ place + 1

@@ -13,12 +13,12 @@ use Rattle.amqp_model.specs.Wire.Readings.{Reading, Calls, kind_of}
 use Rattle.amqp_model.specs.History.Histories.{Entry, Put, Took, channel_of, History, ChannelEntry, PutHere, TookHere}
 use Rattle.amqp_model.specs.History.Histories.{LeftHere, entries_on, notes, entries_before_leaving}
 use Rattle.amqp_model.specs.History.Replies.{one_if}
-use Rattle.amqp_model.specs.End.Channels.{Life, Channel, Free, Opening, Closing, Phase, Running, Agreed, new_life}
+use Rattle.amqp_model.specs.End.Channels.{Life, Channel, Free, Opening, Closing, Running, Agreed, new_life}
 use Rattle.amqp_model.specs.End.Channels as channels
 use Rattle.amqp_model.specs.History.Negotiation.{Config}
 use Rattle.amqp_model.specs.End.FrameVerdict.{Facts, answers_first, verdict_on}
 use Rattle.amqp_model.specs.End.EndVerdict.{goes_on}
-use Rattle.amqp_model.specs.End.Machine.{with_asked, is_open, is_close_ok, free_after_putting, life_after}
+use Rattle.amqp_model.specs.End.Machine.{with_asked, is_open_method, is_close_ok, free_after_putting, life_after}
 use Rattle.amqp_model.specs.End.Machine.{free_after_taking, opening_after_taking, open_after_taking, open_after_putting}
 use Rattle.amqp_model.specs.End.Machine.{channel_after, answers_in_turn, may_put_here, IsAnswerable, HasItsRequest}
 use Rattle.amqp_model.specs.End.Machine.{CountsOpen, Counts, ChannelStandsFor}
@@ -145,10 +145,10 @@ open-puts role life r frame entries c may = go (kind_of r) refl (and_parts _ _ m
         put-stays_open role life r frame entries c e
         (put-matches role life.content life.requests r frame in_turn c.answerable)
 
-    go : (k : Kind) → kind_of r ≡ k → (not (is_open (kind_of r)) ≡ true)
+    go : (k : Kind) → kind_of r ≡ k → (not (is_open_method (kind_of r)) ≡ true)
         × (answers_in_turn role life.requests r ≡ true)
         → Counts role (open_after_putting role (PutHere r frame) life k) (PutHere r frame ∷ entries)
-    go Open e h = absurd (true≢false (sym (ap is_open e) ∙ not-true _ h.0))
+    go Open e h = absurd (true≢false (sym (ap is_open_method e) ∙ not-true _ h.0))
     go Close e h = put-close role r frame entries c.alive e
     go OpenOk e h = stays h.1 (ap stays_open e)
     go CloseOk e h = stays h.1 (ap stays_open e)
@@ -165,9 +165,9 @@ free-puts role r frame entries c may = go role (kind_of r) refl c may
         → Counts role (free_after_putting role k) (PutHere r frame ∷ entries)
     go Client Open e c may = put-open r frame entries c.1 e
     go role CloseOk e c may = put-close_ok-free role r frame entries e c
-    go Server Open e c may = absurd (false≢true (sym (ap (λ k. (false && is_open k) || is_close_ok k) e) ∙ may))
+    go Server Open e c may = absurd (false≢true (sym (ap (λ k. (false && is_open_method k) || is_close_ok k) e) ∙ may))
     go role k e c may =
-        absurd (false≢true (sym (ap (λ k. (is_client role && is_open k) || is_close_ok k) e) ∙ may))
+        absurd (false≢true (sym (ap (λ k. (is_client role && is_open_method k) || is_close_ok k) e) ∙ may))
 
 closing-puts : (role : Role) (r : Reading) (frame : Frame) (entries : List ChannelEntry) → Counts role Closing entries
     → is_close_ok (kind_of r) ≡ true → Counts role Closing (PutHere r frame ∷ entries)

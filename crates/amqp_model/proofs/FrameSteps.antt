@@ -11,7 +11,7 @@ use Rattle.amqp_model.specs.History.Verdict.{verdict_at}
 use Rattle.amqp_model.specs.Wire.Methods.{Method, ReadsBack}
 use Rattle.amqp_model.specs.Wire.Readings.{Calls, reading, kind_of}
 use Rattle.amqp_model.specs.History.Histories.{Put, Took, History, ChannelEntry, PutHere, TookHere}
-use Rattle.amqp_model.specs.End.Channels.{Life, Channel, Free, Opening, Closing, Phase, Handshake, Running, Closed}
+use Rattle.amqp_model.specs.End.Channels.{Channel, Free, Opening, Closing, Phase, Handshake, Running, Closed}
 use Rattle.amqp_model.specs.End.Channels.{Failed, End, state_of}
 use Rattle.amqp_model.specs.End.Channels as channels
 use Rattle.amqp_model.specs.History.Negotiation.{Config}

@@ -21,44 +21,45 @@ use Rattle.amqp_model.specs.End.Fitting.{ConfigFits, ConfigWrites}
 use Rattle.amqp_model.specs.Laws.FittingLaws.{MethodReadsBack}
 use Rattle.amqp_model.specs.Stream.Octets.{frames_put, frames_taken}
 use Rattle.amqp_model.specs.Pair.Pairs.{ComesNext, Pair, both_begin, client_goes, server_goes}
-use Rattle.amqp_model.specs.Laws.GatedExample.{gated_client, gated_server, settled_by_gated, on_zero, chosen, closing}
-use Rattle.amqp_model.specs.Laws.GatedExample.{refusing, close_ok, GatedExamplesArePairs}
+use Rattle.amqp_model.specs.Laws.GatedExample.{gated_client, gated_server, settled_by_gated, frame_on_zero, chosen, closing}
+use Rattle.amqp_model.specs.Laws.GatedExample.{refusing, GatedExamplesArePairs}
+use Rattle.amqp_model.specs.Laws.PairExample.{close_ok}
 use Rattle.amqp_model.proofs.ReadBack.{config-writes}
 use Rattle.amqp_model.proofs.Matching.{takes-what-comes-next}
 use Rattle.amqp_model.proofs.PairExample.{same-above, are-octets}
 
 -- the two histories as they grow
 abbrev s1 : History
-s1 = Put (on_zero (start gated_server)) ∷ []
+s1 = Put (frame_on_zero (start gated_server)) ∷ []
 
 abbrev c1 : History
-c1 = Took (on_zero (start gated_server)) ∷ []
+c1 = Took (frame_on_zero (start gated_server)) ∷ []
 
 abbrev c2 : History
-c2 = Put (on_zero chosen) ∷ c1
+c2 = Put (frame_on_zero chosen) ∷ c1
 
 abbrev s2 : History
-s2 = Took (on_zero chosen) ∷ s1
+s2 = Took (frame_on_zero chosen) ∷ s1
 
 abbrev s3 : History
-s3 = Put (on_zero (tune gated_server)) ∷ s2
+s3 = Put (frame_on_zero (tune gated_server)) ∷ s2
 
 abbrev c3 : History
 c3 =
-    Put (on_zero (connection_open gated_client)) ∷ Put (on_zero (tune_ok settled_by_gated))
-    ∷ Took (on_zero (tune gated_server)) ∷ c2
+    Put (frame_on_zero (connection_open gated_client)) ∷ Put (frame_on_zero (tune_ok settled_by_gated))
+    ∷ Took (frame_on_zero (tune gated_server)) ∷ c2
 
 abbrev s4 : History
-s4 = Took (on_zero (tune_ok settled_by_gated)) ∷ s3
+s4 = Took (frame_on_zero (tune_ok settled_by_gated)) ∷ s3
 
 abbrev s5 : History
-s5 = Took (on_zero (connection_open gated_client)) ∷ s4
+s5 = Took (frame_on_zero (connection_open gated_client)) ∷ s4
 
 abbrev s6 : History
-s6 = Put (on_zero connection_open_ok) ∷ s5
+s6 = Put (frame_on_zero connection_open_ok) ∷ s5
 
 abbrev c4 : History
-c4 = Took (on_zero connection_open_ok) ∷ c3
+c4 = Took (frame_on_zero connection_open_ok) ∷ c3
 
 abbrev s7 : History
 s7 = Put heartbeat_frame ∷ s6
@@ -67,7 +68,7 @@ abbrev c5 : History
 c5 = Put heartbeat_frame ∷ c4
 
 abbrev s8 : History
-s8 = Put (on_zero closing) ∷ s7
+s8 = Put (frame_on_zero closing) ∷ s7
 
 abbrev s9 : History
 s9 = Took heartbeat_frame ∷ s8
@@ -76,19 +77,19 @@ abbrev c6 : History
 c6 = Took heartbeat_frame ∷ c5
 
 abbrev c7 : History
-c7 = Put (on_zero close_ok) ∷ Took (on_zero closing) ∷ c6
+c7 = Put (frame_on_zero close_ok) ∷ Took (frame_on_zero closing) ∷ c6
 
 abbrev s10 : History
-s10 = Took (on_zero close_ok) ∷ s9
+s10 = Took (frame_on_zero close_ok) ∷ s9
 
 abbrev r3 : History
-r3 = Put (on_zero refusing) ∷ s2
+r3 = Put (frame_on_zero refusing) ∷ s2
 
 abbrev k3 : History
-k3 = Put (on_zero close_ok) ∷ Took (on_zero refusing) ∷ c2
+k3 = Put (frame_on_zero close_ok) ∷ Took (frame_on_zero refusing) ∷ c2
 
 abbrev r4 : History
-r4 = Took (on_zero close_ok) ∷ r3
+r4 = Took (frame_on_zero close_ok) ∷ r3
 
 module _ (reads : MethodReadsBack) (client_writes : ConfigWrites gated_client)
     (server_writes : ConfigWrites gated_server) where
@@ -139,57 +140,57 @@ module _ (reads : MethodReadsBack) (client_writes : ConfigWrites gated_client)
   unfolding method_at header_at plain_method plain_header reading.method_at reading.args_at reading.field_at with_id
       header_reading.header_at header_reading.properties_at header_reading.optional_at table_at elements many
       named after_tag tagged value_at
-  p2 = client-takes p1 (on_zero (start gated_server)) [] refl (λ e. absurd (false≢true e)) refl
+  p2 = client-takes p1 (frame_on_zero (start gated_server)) [] refl (λ e. absurd (false≢true e)) refl
 
   p3 : Pair gated_client gated_server c2 s1
   unfolding method_at header_at plain_method plain_header reading.method_at reading.args_at reading.field_at with_id
       header_reading.header_at header_reading.properties_at header_reading.optional_at table_at elements many
       named after_tag tagged value_at
-  p3 = client-does p2 (AnswerStart (codes "EXTERNAL") [] (codes "en_US")) (on_zero chosen) refl refl
+  p3 = client-does p2 (AnswerStart (codes "EXTERNAL") [] (codes "en_US")) (frame_on_zero chosen) refl refl
 
   p4 : Pair gated_client gated_server c2 s2
   unfolding method_at header_at plain_method plain_header reading.method_at reading.args_at reading.field_at with_id
       header_reading.header_at header_reading.properties_at header_reading.optional_at table_at elements many
       named after_tag tagged value_at
-  p4 = server-takes p3 (on_zero chosen) [] refl (λ e. absurd (false≢true e)) refl
+  p4 = server-takes p3 (frame_on_zero chosen) [] refl (λ e. absurd (false≢true e)) refl
 
   p5 : Pair gated_client gated_server c2 s3
   unfolding method_at header_at plain_method plain_header reading.method_at reading.args_at reading.field_at with_id
       header_reading.header_at header_reading.properties_at header_reading.optional_at table_at elements many
       named after_tag tagged value_at
-  p5 = server-does p4 Admit (on_zero (tune gated_server)) tt refl
+  p5 = server-does p4 Admit (frame_on_zero (tune gated_server)) tt refl
 
   p6 : Pair gated_client gated_server c3 s3
   unfolding method_at header_at plain_method plain_header reading.method_at reading.args_at reading.field_at with_id
       header_reading.header_at header_reading.properties_at header_reading.optional_at table_at elements many
       named after_tag tagged value_at
-  p6 = client-takes p5 (on_zero (tune gated_server)) [] refl (λ e. absurd (false≢true e)) refl
+  p6 = client-takes p5 (frame_on_zero (tune gated_server)) [] refl (λ e. absurd (false≢true e)) refl
 
   p7 : Pair gated_client gated_server c3 s4
   unfolding method_at header_at plain_method plain_header reading.method_at reading.args_at reading.field_at with_id
       header_reading.header_at header_reading.properties_at header_reading.optional_at table_at elements many
       named after_tag tagged value_at
   p7 =
-      server-takes p6 (on_zero (tune_ok settled_by_gated)) (on_zero (connection_open gated_client) ∷ []) refl
+      server-takes p6 (frame_on_zero (tune_ok settled_by_gated)) (frame_on_zero (connection_open gated_client) ∷ []) refl
       (λ e. absurd (false≢true e)) refl
 
   p8 : Pair gated_client gated_server c3 s5
   unfolding method_at header_at plain_method plain_header reading.method_at reading.args_at reading.field_at with_id
       header_reading.header_at header_reading.properties_at header_reading.optional_at table_at elements many
       named after_tag tagged value_at
-  p8 = server-takes p7 (on_zero (connection_open gated_client)) [] refl (λ e. absurd (false≢true e)) refl
+  p8 = server-takes p7 (frame_on_zero (connection_open gated_client)) [] refl (λ e. absurd (false≢true e)) refl
 
   p9 : Pair gated_client gated_server c3 s6
   unfolding method_at header_at plain_method plain_header reading.method_at reading.args_at reading.field_at with_id
       header_reading.header_at header_reading.properties_at header_reading.optional_at table_at elements many
       named after_tag tagged value_at
-  p9 = server-does p8 Admit (on_zero connection_open_ok) tt refl
+  p9 = server-does p8 Admit (frame_on_zero connection_open_ok) tt refl
 
   p10 : Pair gated_client gated_server c4 s6
   unfolding method_at header_at plain_method plain_header reading.method_at reading.args_at reading.field_at with_id
       header_reading.header_at header_reading.properties_at header_reading.optional_at table_at elements many
       named after_tag tagged value_at
-  p10 = client-takes p9 (on_zero connection_open_ok) [] refl (λ e. absurd (false≢true e)) refl
+  p10 = client-takes p9 (frame_on_zero connection_open_ok) [] refl (λ e. absurd (false≢true e)) refl
 
   p11 : Pair gated_client gated_server c4 s7
   unfolding method_at header_at plain_method plain_header reading.method_at reading.args_at reading.field_at with_id
@@ -208,7 +209,7 @@ module _ (reads : MethodReadsBack) (client_writes : ConfigWrites gated_client)
       header_reading.header_at header_reading.properties_at header_reading.optional_at table_at elements many
       named after_tag tagged value_at
   p13 =
-      server_goes {taken = None} p12 tt (asks (Ask.Close 320 (codes "bye") no_cause) (on_zero closing ∷ []) refl
+      server_goes {taken = None} p12 tt (asks (Ask.Close 320 (codes "bye") no_cause) (frame_on_zero closing ∷ []) refl
       (record { method = refl; header = tt; text = (omega arith, are-octets (codes "bye") refl) }) refl)
 
   p14 : Pair gated_client gated_server c5 s9
@@ -221,14 +222,14 @@ module _ (reads : MethodReadsBack) (client_writes : ConfigWrites gated_client)
   unfolding method_at header_at plain_method plain_header reading.method_at reading.args_at reading.field_at with_id
       header_reading.header_at header_reading.properties_at header_reading.optional_at table_at elements many
       named after_tag tagged value_at
-  p15 = client-takes p14 heartbeat_frame (on_zero closing ∷ []) refl (λ e. absurd (false≢true e)) refl
+  p15 = client-takes p14 heartbeat_frame (frame_on_zero closing ∷ []) refl (λ e. absurd (false≢true e)) refl
 
   p16 : Pair gated_client gated_server c7 s9
   unfolding method_at header_at plain_method plain_header reading.method_at reading.args_at reading.field_at with_id
       header_reading.header_at header_reading.properties_at header_reading.optional_at table_at elements many
       named after_tag tagged value_at
   p16 =
-      client-takes p15 (on_zero closing) [] refl
+      client-takes p15 (frame_on_zero closing) [] refl
       (λ e n. same-above n (frames_put s9) (frames_taken c6) refl refl refl) refl
 
   p17 : Pair gated_client gated_server c7 s10
@@ -236,7 +237,7 @@ module _ (reads : MethodReadsBack) (client_writes : ConfigWrites gated_client)
       header_reading.header_at header_reading.properties_at header_reading.optional_at table_at elements many
       named after_tag tagged value_at
   p17 =
-      server-takes p16 (on_zero close_ok) [] refl
+      server-takes p16 (frame_on_zero close_ok) [] refl
       (λ e n. same-above n (frames_put c7) (frames_taken s9) refl refl refl) refl
 
   q5 : Pair gated_client gated_server c2 r3
@@ -244,7 +245,7 @@ module _ (reads : MethodReadsBack) (client_writes : ConfigWrites gated_client)
       header_reading.header_at header_reading.properties_at header_reading.optional_at table_at elements many
       named after_tag tagged value_at
   q5 =
-      server-does p4 (Refuse 403 (codes "ACCESS_REFUSED")) (on_zero refusing)
+      server-does p4 (Refuse 403 (codes "ACCESS_REFUSED")) (frame_on_zero refusing)
       (refl, (omega arith, are-octets (codes "ACCESS_REFUSED") refl)) refl
 
   q6 : Pair gated_client gated_server k3 r3
@@ -252,7 +253,7 @@ module _ (reads : MethodReadsBack) (client_writes : ConfigWrites gated_client)
       header_reading.header_at header_reading.properties_at header_reading.optional_at table_at elements many
       named after_tag tagged value_at
   q6 =
-      client-takes q5 (on_zero refusing) [] refl
+      client-takes q5 (frame_on_zero refusing) [] refl
       (λ e n. same-above n (frames_put r3) (frames_taken c2) refl refl refl) refl
 
   q7 : Pair gated_client gated_server k3 r4
@@ -260,7 +261,7 @@ module _ (reads : MethodReadsBack) (client_writes : ConfigWrites gated_client)
       header_reading.header_at header_reading.properties_at header_reading.optional_at table_at elements many
       named after_tag tagged value_at
   q7 =
-      server-takes q6 (on_zero close_ok) [] refl
+      server-takes q6 (frame_on_zero close_ok) [] refl
       (λ e n. same-above n (frames_put k3) (frames_taken r3) refl refl refl) refl
 
 client-fits : ConfigFits gated_client

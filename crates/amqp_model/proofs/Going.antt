@@ -15,7 +15,7 @@ use Rattle.amqp_model.specs.Wire.Readings.{Reading, Calls, UnknownMethod, Malfor
 use Rattle.amqp_model.specs.Wire.Readings.{BodyOf, Beat, kind_of, payload_of}
 use Rattle.amqp_model.specs.History.Histories.{TookHere}
 use Rattle.amqp_model.specs.History.Replies.{one_if, completes_reply}
-use Rattle.amqp_model.specs.End.Channels.{Life, Channel, Free, Opening, Closing, Phase, Running, Agreed}
+use Rattle.amqp_model.specs.End.Channels.{Life, Channel, Free, Opening, Running, Agreed}
 use Rattle.amqp_model.specs.End.Channels as channels
 use Rattle.amqp_model.specs.History.Negotiation.{Config}
 use Rattle.amqp_model.specs.End.Closes.{CloseCode, CommandInvalid, ChannelError}

@@ -1,6 +1,6 @@
 -- The header of a content under way came in one frame.
-use Rattle.std.proofs.Common.{◌≡◌, ◌<◌, ◌≤◌, ◌+◌, ◌^◌, inl, Bool, true, false, cond, ℕ, zero}
-use Rattle.std.proofs.Common.{suc, ◌==◌, nat_lt, get_or, arith, List, [], ◌∷◌, ◌++◌, length, Option, Some}
+use Rattle.std.proofs.Common.{◌≡◌, ◌≤◌, inl, Bool, true, false, cond, ℕ, zero}
+use Rattle.std.proofs.Common.{suc, ◌==◌, nat_lt, arith, List, [], ◌∷◌, ◌++◌, length, Option, Some}
 use Rattle.std.proofs.Common.{None, Ok, Err, Result, refl, sym, ap, ◌∙◌, subst, All}
 use Rattle.std.proofs.lemmas.Bool.{false≢true, true≢false}
 use Rattle.byteorder.specs.Endian.{big_bytes}
@@ -27,28 +27,28 @@ use Rattle.amqp_model.specs.History.Histories.{History, Put, Took, PutHere, Took
 use Rattle.amqp_model.specs.History.Negotiation.{Config, frame_limit}
 use Rattle.amqp_model.specs.End.Amounts.{header_octets, header_octets_on}
 use Rattle.amqp_model.specs.End.Channels.{Channel, Free, Opening, Closing, Phase, Handshake, Running, Closed, Failed}
-use Rattle.amqp_model.specs.End.Channels.{HandshakeStep, End}
+use Rattle.amqp_model.specs.End.Channels.{End}
 use Rattle.amqp_model.specs.End.Channels as channels
 use Rattle.amqp_model.specs.End.Closes.{Owed, frame_of}
-use Rattle.amqp_model.specs.End.Events.{FrameVerdict, Proceeds, RefusesContent, Faults}
+use Rattle.amqp_model.specs.End.Events.{FrameVerdict}
 use Rattle.amqp_model.specs.End.FrameVerdict.{methods_put, verdict_on}
 use Rattle.amqp_model.specs.End.EndVerdict.{facts_at, end_puts, end_verdict, goes_on, CanTake}
 use Rattle.amqp_model.specs.End.Asks.{Ask, frames_asked, Puts, ask_verdict, method_asked, refusal}
 use Rattle.amqp_model.specs.Wire.Methods.{ReadsBack}
 use Rattle.amqp_model.specs.End.ReadingBack.{WritesReadBack}
-use Rattle.amqp_model.specs.End.LawfulHistories.{end_of, then_put, then_taken, Goes, greets, takes, faults}
+use Rattle.amqp_model.specs.End.LawfulHistories.{end_of, then_put, Goes, greets, takes, faults}
 use Rattle.amqp_model.specs.End.LawfulHistories.{meets_too_large, fails, asks, controls, Lawful, begun as at_start}
 use Rattle.amqp_model.specs.End.LawfulHistories.{goes}
-use Rattle.amqp_model.specs.End.Machine.{after_put, after_taken, unless_leaving, set_channel, new_end, end_after}
+use Rattle.amqp_model.specs.End.Machine.{channel_after_put, after_taken, unless_leaving, set_channel, new_end, end_after}
 use Rattle.amqp_model.specs.End.Machine.{end_after_owed, end_after_put, end_after_taken, failed_by, StandsFor}
 use Rattle.amqp_model.specs.Laws.EndLaws.{is_over}
 use Rattle.amqp_model.specs.Laws.OctetLaws.{IsOctet}
 use Rattle.amqp_model.specs.Stream.Octets.{frames_taken}
 use Rattle.amqp_model.proofs.Agreeing.{facts_in, frame-agrees, handshake-stops, is_closing}
 use Rattle.amqp_model.proofs.AskSteps.{asks-follow}
-use Rattle.amqp_model.proofs.Asking.{Accepted, accepted as accepted-ask, accepted-none}
+use Rattle.amqp_model.proofs.Asking.{accepted as accepted-ask, accepted-none}
 use Rattle.amqp_model.proofs.ChannelWalks.{lawful-walks}
-use Rattle.amqp_model.proofs.Controlling.{control-kept, control-channels, puts-at-zero}
+use Rattle.amqp_model.proofs.Controlling.{control-kept, puts-at-zero}
 use Rattle.amqp_model.proofs.Elsewhere.{Each, verdict-zero}
 use Rattle.amqp_model.proofs.EndSteps.{not-zero, new-end-stands}
 use Rattle.amqp_model.proofs.FrameSteps.{not-failed, frame-follows}
@@ -119,7 +119,7 @@ abbrev Small : (most : ℕ) → Channel → Type 0
 Small most channel = header_octets_on channel ≤ most
 
 put-small : (role : Role) (most : ℕ) (channel : Channel) (r : Reading) (frame : Frame) (kind : Kind)
-    → Small most channel → Small most (after_put role (PutHere r frame) channel kind)
+    → Small most channel → Small most (channel_after_put role (PutHere r frame) channel kind)
 put-small Client most Free r frame Open s = omega arith
 put-small role most Free r frame kind s = omega arith
 put-small role most Opening r frame kind s = omega arith

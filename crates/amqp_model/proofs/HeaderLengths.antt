@@ -1,9 +1,9 @@
 -- Every encoding of a header has as many octets as the plain one.
-use Rattle.std.proofs.Common.{◌≡◌, Bool, true, false, ℕ, ◌+◌, suc, List, [], ◌∷◌, ◌++◌, length}
-use Rattle.std.proofs.Common.{Option, Some, None, refl, sym, ap, ◌∙◌, arith, length-append}
+use Rattle.std.proofs.Common.{◌≡◌, Bool, true, false, ℕ, suc, List, [], ◌∷◌, ◌++◌, length}
+use Rattle.std.proofs.Common.{Option, Some, None, ap, ◌∙◌, arith, length-append}
 use Rattle.byteorder.specs.Endian.{big_bytes}
 use Rattle.amqp_value.specs.Encoding.{tag_octet, EncodesTruth, EncodesScalar, EncodesField, EncodesItems, EncodesPairs}
-use Rattle.amqp_value.specs.Fields.{EncodesShortString, EncodesLongString, plain_long_string, plain_short_string}
+use Rattle.amqp_value.specs.Fields.{EncodesLongString, plain_long_string, plain_short_string}
 use Rattle.amqp_value.specs.Plain.{plain_truth, plain_scalar, plain_field, plain_items, plain_pairs}
 use Rattle.amqp_value.specs.Values.{Scalar, boolean, short_short_int, short_short_uint, errata_short_int, short_int}
 use Rattle.amqp_value.specs.Values.{short_uint, long_int, long_uint, errata_long_long_int, long_long_int, float, double}
@@ -13,8 +13,8 @@ use Rattle.amqp_method.specs.Arguments as arguments
 use Rattle.amqp_method.specs.Arguments.{Argument, bit, octet, short, long, long_long, short_string}
 use Rattle.amqp_method.specs.Encoding.{EncodesArgument}
 use Rattle.amqp_method.specs.Plain.{plain_argument, plain_present, plain_start}
-use Rattle.amqp_method.specs.Properties.{EncodesPresent, EncodesHeader, flags_of}
-use Rattle.amqp_model.specs.Wire.Methods.{Header, plain_header}
+use Rattle.amqp_method.specs.Properties.{EncodesPresent, flags_of}
+use Rattle.amqp_model.specs.Wire.Methods.{plain_header}
 use Rattle.amqp_model.specs.End.Amounts.{OneHeaderLength}
 
 truth : (holds : Bool) (octets : List ℕ) → EncodesTruth holds octets

@@ -10,7 +10,7 @@ use Rattle.amqp_model.specs.Wire.Notes.{is_message, Role, other_end, Kind, Close
 use Rattle.amqp_model.specs.History.States.{State, Opening}
 use Rattle.amqp_model.specs.History.Lives.{lives, has_left}
 use Rattle.amqp_model.specs.History.Verdict.{Discarded}
-use Rattle.amqp_model.specs.Pair.Carried.{message_frames, taken_by, NoteInLife, At, life_of, puts, takes, acts_next}
+use Rattle.amqp_model.specs.Pair.Carried.{message_frames, taken_by, NoteInLife, At, life_noted, puts, takes, acts_next}
 use Rattle.amqp_model.specs.Pair.Carried.{acted_takes, messages, sent, acted}
 use Rattle.amqp_model.specs.Pair.Runs.{RunAt}
 use Rattle.amqp_model.specs.Laws.LifeLaws.{SidesAgree, GoesOnWith, FindsNoFault, ActsOnPrefix, IsLive}
@@ -40,7 +40,7 @@ takes_prefix role mine theirs run = go (run_at_linked role mine theirs run)
 pub sides_agree : (role : Role) (mine theirs : List Note) → RunAt role mine theirs → SidesAgree role mine theirs
 sides_agree role mine theirs run i life e =
     let prefix = takes_prefix role mine theirs run in
-    let lives_are = ap (map life_of) prefix.1 ∙ map-append life_of (takes role mine) prefix.0 in
+    let lives_are = ap (map life_noted) prefix.1 ∙ map-append life_noted (takes role mine) prefix.0 in
     subst (λ l. slice_get l i ≡ Some life) (sym lives_are) (slice_get_front _ _ i life e)
 
 pub no_fault : (role : Role) (mine theirs : List Note) → RunAt role mine theirs → FindsNoFault role mine theirs
@@ -85,7 +85,7 @@ acts_prefix role mine theirs run life = go (run_at_linked role mine theirs run)
         (prefix_more _ _ (messages life r) (lawful_heard life s).prefix)
 
 abbrev HasLife : ℕ → NoteInLife → Type 0
-HasLife n entry = life_of entry ≡ n
+HasLife n entry = life_noted entry ≡ n
 
 -- each has the life n
 abbrev Own : ℕ → List NoteInLife → Type 0
@@ -134,11 +134,11 @@ pub in_flight : (role : Role) (mine theirs : List Note) → RunAt role mine thei
     → OnItsWayIsOfItsLife role mine theirs
 in_flight role mine theirs run rest live way = go (run_at_linked role mine theirs run)
   where
-    go : Linked role mine theirs → All (λ entry. life_of entry ≡ lives role mine) rest
+    go : Linked role mine theirs → All (λ entry. life_noted entry ≡ lives role mine) rest
     go (linked q r owed owed' s s' e e' w w' joint) =
         let own = own_all _ r (own_prefix _ r owed' (joint_own (pact_joint joint) (live_word s live))) in
         let same : r ≡ rest = append_cancel_left (takes role mine) r rest (sym e' ∙ way) in
-        subst (λ l. All (λ entry. life_of entry ≡ lives role mine) l) same
+        subst (λ l. All (λ entry. life_noted entry ≡ lives role mine) l) same
         (subst (λ n. All (HasLife n) r) (sym (lawful_lives s)) own)
 
 -- the messages of a row of one life, with their lives or without

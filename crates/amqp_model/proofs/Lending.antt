@@ -15,15 +15,15 @@ use Rattle.amqp_model.specs.Wire.Gathering.{Breaks, step}
 use Rattle.amqp_model.specs.Wire.Readings.{Reading, Calls, UnknownMethod, MalformedMethod, HeaderOf, MalformedHeader}
 use Rattle.amqp_model.specs.Wire.Readings.{BodyOf, Beat, is_call, kind_of, payload_of}
 use Rattle.amqp_model.specs.End.Channels as channels
-use Rattle.amqp_model.specs.End.Channels.{Life, Channel, Free, Opening, Closing, Phase, Handshake, Running, Closed}
-use Rattle.amqp_model.specs.End.Channels.{Failed, HandshakeStep, AwaitsProtocolHeader, AwaitsStart, AwaitsStartOk}
+use Rattle.amqp_model.specs.End.Channels.{Life, Channel, Free, Opening, Closing, Phase, Handshake, Closed}
+use Rattle.amqp_model.specs.End.Channels.{Failed, HandshakeStep, AwaitsStart, AwaitsStartOk}
 use Rattle.amqp_model.specs.End.Channels.{AwaitsTune, AwaitsTuneOk, AwaitsOpen, AwaitsOpenOk, Agreed}
 use Rattle.amqp_model.specs.History.Negotiation.{Config, tunes_too_small, agreed_in, in_range}
 use Rattle.amqp_model.specs.End.Closes.{ChannelError, Owed}
 use Rattle.amqp_model.specs.End.Events.{Event, AnswerAsked, LoginAsked, OpenAsked, Told, Plain, Whole, FrameVerdict}
 use Rattle.amqp_model.specs.End.Events.{Proceeds}
 use Rattle.amqp_model.specs.End.FrameVerdict.{Facts, fault, MOST_REQUESTS, first_of, when_over, when_leaving}
-use Rattle.amqp_model.specs.End.FrameVerdict.{when_heartbeat, as_lives, when_closing, when_unread, negotiated}
+use Rattle.amqp_model.specs.End.FrameVerdict.{when_heartbeat, as_lives, when_channel_closing, when_unread, negotiated}
 use Rattle.amqp_model.specs.End.FrameVerdict.{is_awaited, asked_or, on_awaited, when_handshake, is_no_channel}
 use Rattle.amqp_model.specs.End.FrameVerdict.{after_part, on_part, part_on, when_content, when_connection}
 use Rattle.amqp_model.specs.End.FrameVerdict.{when_misdirected, when_no_channel, on_message, answers_first, on_matched}
@@ -156,7 +156,7 @@ module _ (role : Role) (config : Config role) (phase : Phase) (agreed : Option A
 
   closing-so : (c : Channel) (r : Reading)
       → RuleTellsSo c r
-      (when_closing (record { config = config; phase = phase; agreed = agreed; number = number; channel = c }) c r)
+      (when_channel_closing (record { config = config; phase = phase; agreed = agreed; number = number; channel = c }) c r)
   closing-so Closing r =
       lives-so Closing r number (verdict_at role State.Closing false (kind_of r)) (closing-lives role false r)
   closing-so c r = tt
@@ -280,7 +280,7 @@ tells-so role facts r =
     (first facts.channel r (when_leaving facts.phase facts.number r) _ _
     (leaving-so facts.channel r facts.phase facts.number)
     (first facts.channel r (when_heartbeat facts.number r) _ _ (heartbeat-so facts.channel facts.number r)
-    (first facts.channel r (when_closing facts facts.channel r) _ _
+    (first facts.channel r (when_channel_closing facts facts.channel r) _ _
     (closing-so role facts.config facts.phase facts.agreed facts.number facts.channel facts.channel r)
     (first facts.channel r (when_unread r) _ _ (unread-so facts.channel r)
     (first facts.channel r (when_handshake facts facts.phase r) _ _

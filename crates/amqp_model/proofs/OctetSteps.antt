@@ -36,7 +36,7 @@ use Rattle.amqp_model.specs.Stream.Octets.{frames_taken, frames_put, opening_rea
 use Rattle.amqp_model.specs.Stream.Octets.{FailedAt}
 use Rattle.amqp_model.specs.Stream.Endpoint.{Judgement, Begun, Whole, Wrong, judged, Prefix, Same, Differs, compared}
 use Rattle.amqp_model.specs.Stream.Endpoint.{Endpoint, Feeding, Outcome, Unfinished, Finished, Found, output_of}
-use Rattle.amqp_model.specs.Stream.Endpoint.{refusal_in, unless_over, goes_on_with, comes_to, awaits_opening, greeting}
+use Rattle.amqp_model.specs.Stream.Endpoint.{refusal_in, unless_over, holds_octets, comes_to, awaits_opening, owed_at_start}
 use Rattle.amqp_model.specs.Stream.Endpoint.{after_opening, outcome_of, fault_told, owed_at_fault, after_judged}
 use Rattle.amqp_model.specs.Stream.Endpoint.{after_octets, after_octet, fed_after, after_feed}
 use Rattle.amqp_model.specs.Laws.OctetLaws.{IsOctet, IsWhole, TellsLast, IsJudgedWell, EndpointStandsFor, HasFailed}
@@ -75,12 +75,12 @@ record CanCome (limit : ℕ) (frame : Frame) : Type 0 where
 -- a server's start is writable, and so is what any frame that can come next makes the end put
 record PutsFit (role : Role) (config : Config role) (end : End) : Type 0 where
   back : WritesReadBack role config
-  greets : AreWritable (greeting role config)
+  greets : AreWritable (owed_at_start role config)
   owes : (frame : Frame) → CanCome (frame_limit end.agreed) frame
       → AreWritable (methods_put (facts_at config end frame.channel) (end_verdict config end frame))
 
 greeting-writable : MethodReadsBack → (role : Role) (config : Config role) → ConfigWrites config
-    → AreWritable (greeting role config)
+    → AreWritable (owed_at_start role config)
 greeting-writable reads Client config writes = record { read_back = tt; fit = tt }
 greeting-writable reads Server config writes =
     record { read_back = (writes.greeting_back, tt); fit = (start-fits_frame config writes, tt) }
@@ -161,7 +161,7 @@ start-kind config = go config.hello
 module _ (config : Config Server) (old : Endpoint) (fed written : List ℕ) (octet : ℕ)
     (s : EndpointStandsFor Server config old [] fed written) (small : IsOctet octet)
     (fits : PutsFit Server config old.end) (whole : PROTOCOL_HEADER ≡ fed ++ octet ∷ []) where
-  greeted-stands : StandsFor Server config false (end_after_owed Server config (greeting Server config) old.end)
+  greeted-stands : StandsFor Server config false (end_after_owed Server config (owed_at_start Server config) old.end)
       (Put (method_frame 0 (start config)) ∷ [])
   greeted-stands =
       subst (λ r.
@@ -169,10 +169,10 @@ module _ (config : Config Server) (old : Endpoint) (fed written : List ℕ) (oct
       (Put (method_frame 0 (start config)) ∷ [])) (reads-back 0 (start config) fits.greets.read_back.0)
       (end-follows Server config old.end [] (Put (method_frame 0 (start config))) s.stands (inl refl))
 
-  greeted-opened : awaits_opening Server (end_after_owed Server config (greeting Server config) old.end).phase ≡ false
+  greeted-opened : awaits_opening Server (end_after_owed Server config (owed_at_start Server config) old.end).phase ≡ false
   greeted-opened =
       subst (λ phase.
-      awaits_opening Server (end_after_owed Server config (greeting Server config)
+      awaits_opening Server (end_after_owed Server config (owed_at_start Server config)
       (record { phase = phase; agreed = old.end.agreed; channels = old.end.channels })).phase ≡ false) s.stands.phase
       (subst (λ kind.
       awaits_opening Server (cond (same_kind kind kinds.ConnectionClose) Closing
@@ -182,8 +182,8 @@ module _ (config : Config Server) (old : Endpoint) (fed written : List ℕ) (oct
       (sym (start-kind config)) refl)
 
   greeted : EndpointStandsFor Server config
-      (comes_to old (end_after_owed Server config (greeting Server config) old.end)
-      (map frame_of (greeting Server config)) (Finished (Some Quiet))).endpoint
+      (comes_to old (end_after_owed Server config (owed_at_start Server config) old.end)
+      (map frame_of (owed_at_start Server config)) (Finished (Some Quiet))).endpoint
       (Put (method_frame 0 (start config)) ∷ []) (fed ++ octet ∷ []) written
   greeted = record {
     lawful = goes s.lawful lawful.greets;
@@ -191,7 +191,7 @@ module _ (config : Config Server) (old : Endpoint) (fed written : List ℕ) (oct
     opens = greeted-opened;
     are_octets = All-push IsOctet fed octet s.are_octets small;
     read = FedAs.in_frames refl (sym whole) tt
-        (no-octets (frame_limit (end_after_owed Server config (greeting Server config) old.end).agreed));
+        (no-octets (frame_limit (end_after_owed Server config (owed_at_start Server config) old.end).agreed));
     out = output-puts [] (method_frame 0 (start config) ∷ []) [] written old.output s.out fits.greets.fit;
   }
 
@@ -204,9 +204,9 @@ is_unfinished outcome = false
 -- nothing comes of it, or something does, whatever octets stand after it
 data Steps (role : Role) (config : Config role) (old : Endpoint) (history : History) (fed written : List ℕ)
     (octet : ℕ) : Feeding → Type 0 where
-  kept : EndpointStandsFor role config (goes_on_with old (old.unfinished ++ octet ∷ [])).endpoint history
+  kept : EndpointStandsFor role config (holds_octets old (old.unfinished ++ octet ∷ [])).endpoint history
       (fed ++ octet ∷ []) written
-      → Steps role config old history fed written octet (goes_on_with old (old.unfinished ++ octet ∷ []))
+      → Steps role config old history fed written octet (holds_octets old (old.unfinished ++ octet ∷ []))
   come : (new : Feeding) → is_unfinished new.outcome ≡ false
       → ((later : List ℕ) → Follows role config old history fed written (octet ∷ later) new)
       → Steps role config old history fed written octet new
@@ -283,9 +283,9 @@ header-whole Server config old history fed written octet s small fits a h e =
     come _ refl (λ later.
     greets a h refl
     (subst (λ history.
-    EndpointStandsFor Server config (comes_to old (end_after_owed Server config (greeting Server config) old.end)
-    (map frame_of (greeting Server config)) (Finished (Some Quiet))).endpoint
-    (then_put (map frame_of (greeting Server config)) history) (fed ++ octet ∷ []) written) (sym h)
+    EndpointStandsFor Server config (comes_to old (end_after_owed Server config (owed_at_start Server config) old.end)
+    (map frame_of (owed_at_start Server config)) (Finished (Some Quiet))).endpoint
+    (then_put (map frame_of (owed_at_start Server config)) history) (fed ++ octet ∷ []) written) (sym h)
     (greeted config old fed written octet
     (subst (λ history. EndpointStandsFor Server config old history fed written) h s) small fits e)))
 
@@ -619,7 +619,7 @@ unless-over new later (Found fault) e = refl
 -- what comes of the octets after the first comes of the piece
 after-first : (role : Role) (config : Config role) (old : Endpoint) (history : History) (fed written : List ℕ)
     (octet : ℕ) (later : List ℕ) (new : Feeding) → refusal_in old.end.phase ≡ None
-    → Follows role config (goes_on_with old (old.unfinished ++ octet ∷ [])).endpoint history
+    → Follows role config (holds_octets old (old.unfinished ++ octet ∷ [])).endpoint history
     (fed ++ octet ∷ []) written later new
     → Follows role config old history fed written (octet ∷ later)
     (record { endpoint = new.endpoint; taken = suc new.taken; outcome = new.outcome })
@@ -628,7 +628,7 @@ after-first role config old history fed written octet later new r (waits o s) =
     (append_assoc fed (octet ∷ []) (take new.taken later)) s)
 after-first role config old history fed written octet later new r (greets a h o s) =
     greets a h o
-    (subst (λ fed. EndpointStandsFor role config new.endpoint (then_put (map frame_of (greeting role config)) history)
+    (subst (λ fed. EndpointStandsFor role config new.endpoint (then_put (map frame_of (owed_at_start role config)) history)
     fed written) (append_assoc fed (octet ∷ []) (take new.taken later)) s)
 after-first role config old history fed written octet later new r (takes frame t w g o s) =
     takes frame t (subst (λ rest. IsWhole (frame_limit old.end.agreed) rest frame)
@@ -659,11 +659,11 @@ after-first role config old history fed written octet later new r (refuses close
 first-steps : (role : Role) (config : Config role) (old : Endpoint) (history : History) (fed written : List ℕ)
     (octet : ℕ) (later : List ℕ) (first : Feeding) → refusal_in old.end.phase ≡ None
     → Steps role config old history fed written octet first
-    → (EndpointStandsFor role config (goes_on_with old (old.unfinished ++ octet ∷ [])).endpoint history
+    → (EndpointStandsFor role config (holds_octets old (old.unfinished ++ octet ∷ [])).endpoint history
     (fed ++ octet ∷ []) written
-    → Follows role config (goes_on_with old (old.unfinished ++ octet ∷ [])).endpoint history
+    → Follows role config (holds_octets old (old.unfinished ++ octet ∷ [])).endpoint history
     (fed ++ octet ∷ []) written later
-    (after_feed role config (goes_on_with old (old.unfinished ++ octet ∷ [])).endpoint later))
+    (after_feed role config (holds_octets old (old.unfinished ++ octet ∷ [])).endpoint later))
     → Follows role config old history fed written (octet ∷ later)
     (fed_after first first.outcome (after_feed role config first.endpoint later))
 first-steps role config old history fed written octet later first r (kept s) more =
@@ -687,15 +687,15 @@ feed-follows law role config endpoint history fed written [] s all writes =
         refuses closed.0 (ap (λ fault. record { endpoint = endpoint; taken = 0; outcome = Found fault }) closed.1)
 feed-follows law role config endpoint history fed written (octet ∷ later) s all writes =
     by-refusal (refusal_in endpoint.end.phase) refl
-    (λ more. feed-follows law role config (goes_on_with endpoint (endpoint.unfinished ++ octet ∷ [])).endpoint
+    (λ more. feed-follows law role config (holds_octets endpoint (endpoint.unfinished ++ octet ∷ [])).endpoint
     history (fed ++ octet ∷ []) written later more (All-tail IsOctet octet later all) writes)
   where
     by-refusal : (refusal : Option Fault) → refusal_in endpoint.end.phase ≡ refusal
-        → (EndpointStandsFor role config (goes_on_with endpoint (endpoint.unfinished ++ octet ∷ [])).endpoint
+        → (EndpointStandsFor role config (holds_octets endpoint (endpoint.unfinished ++ octet ∷ [])).endpoint
         history (fed ++ octet ∷ []) written
-        → Follows role config (goes_on_with endpoint (endpoint.unfinished ++ octet ∷ [])).endpoint history
+        → Follows role config (holds_octets endpoint (endpoint.unfinished ++ octet ∷ [])).endpoint history
         (fed ++ octet ∷ []) written later
-        (after_feed role config (goes_on_with endpoint (endpoint.unfinished ++ octet ∷ [])).endpoint later))
+        (after_feed role config (holds_octets endpoint (endpoint.unfinished ++ octet ∷ [])).endpoint later))
         → Follows role config endpoint history fed written (octet ∷ later)
         (after_feed role config endpoint (octet ∷ later))
     by-refusal None r more =

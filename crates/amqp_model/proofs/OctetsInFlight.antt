@@ -25,7 +25,7 @@ use Rattle.amqp_model.specs.Laws.FittingLaws.{MethodReadsBack}
 use Rattle.amqp_model.specs.End.LawfulHistories.{then_put, greets}
 use Rattle.amqp_model.specs.Stream.Octets.{frames_taken, frames_put, opening_read, has_opened, FedAs, FailedAt}
 use Rattle.amqp_model.specs.Pair.Pairs.{ComesNext, PairOf, server_goes, config_of}
-use Rattle.amqp_model.specs.Stream.Endpoint.{Endpoint, Feeding, Unfinished, Found, awaits_opening, fault_told, greeting}
+use Rattle.amqp_model.specs.Stream.Endpoint.{Endpoint, Feeding, Unfinished, Found, awaits_opening, fault_told, owed_at_start}
 use Rattle.amqp_model.specs.Stream.Endpoint.{after_feed}
 use Rattle.amqp_model.specs.Stream.Grown.{Grows}
 use Rattle.amqp_model.specs.Laws.OctetLaws.{IsWhole, TellsLast, EndpointStandsFor, Follows, waits}
@@ -180,10 +180,10 @@ greets-pair : (role : Role) (client_config : Config Client) (server_config : Con
     (phase : Phase) → awaits_opening role phase ≡ true → mine ≡ []
     → PairOf role client_config server_config mine theirs
     → PairOf role client_config server_config
-    (then_put (map frame_of (greeting role (config_of role client_config server_config))) mine) theirs
+    (then_put (map frame_of (owed_at_start role (config_of role client_config server_config))) mine) theirs
 greets-pair Client client_config server_config mine theirs phase awaits none pair = absurd (false≢true awaits)
 greets-pair Server client_config server_config mine theirs phase awaits none pair =
-    subst (λ h. PairOf Server client_config server_config (then_put (map frame_of (greeting Server server_config)) h)
+    subst (λ h. PairOf Server client_config server_config (then_put (map frame_of (owed_at_start Server server_config)) h)
     theirs) (sym none)
     (server_goes {taken = None} (subst (λ h. PairOf Server client_config server_config h theirs) none pair) tt greets)
 

@@ -26,7 +26,7 @@ use Rattle.amqp_model.specs.Stream.Octets.{frames_put, frames_taken}
 use Rattle.amqp_model.specs.Pair.Pairs.{ComesNext, Pair, both_begin, client_goes, server_goes}
 use Rattle.amqp_model.specs.Laws.PairExample.{example_client, example_server, settled_example, zero, one, channel_open}
 use Rattle.amqp_model.specs.Laws.PairExample.{channel_open_ok, channel_close_ok, close_ok, select, select_ok, published}
-use Rattle.amqp_model.specs.Laws.PairExample.{delivered, header_of, body_of, ExampleIsPair}
+use Rattle.amqp_model.specs.Laws.PairExample.{delivered, header_frame, body_frame, ExampleIsPair}
 use Rattle.amqp_model.proofs.ReadBack.{config-writes}
 use Rattle.amqp_model.proofs.Matching.{takes-what-comes-next}
 
@@ -87,28 +87,28 @@ abbrev c5 : History
 c5 = Took (one channel_open_ok) ∷ c4
 
 abbrev c6 : History
-c6 = Put (body_of published) ∷ Put (header_of published) ∷ Put (one published.method) ∷ c5
+c6 = Put (body_frame published) ∷ Put (header_frame published) ∷ Put (one published.method) ∷ c5
 
 abbrev s6 : History
 s6 = Took (one published.method) ∷ s5
 
 abbrev s7 : History
-s7 = Took (header_of published) ∷ s6
+s7 = Took (header_frame published) ∷ s6
 
 abbrev s8 : History
-s8 = Took (body_of published) ∷ s7
+s8 = Took (body_frame published) ∷ s7
 
 abbrev s9 : History
-s9 = Put (body_of delivered) ∷ Put (header_of delivered) ∷ Put (one delivered.method) ∷ s8
+s9 = Put (body_frame delivered) ∷ Put (header_frame delivered) ∷ Put (one delivered.method) ∷ s8
 
 abbrev c7 : History
 c7 = Took (one delivered.method) ∷ c6
 
 abbrev c8 : History
-c8 = Took (header_of delivered) ∷ c7
+c8 = Took (header_frame delivered) ∷ c7
 
 abbrev c9 : History
-c9 = Took (body_of delivered) ∷ c8
+c9 = Took (body_frame delivered) ∷ c8
 
 abbrev s10 : History
 s10 = Put (one (flow_as kinds.ChannelFlow false)) ∷ s9
@@ -279,56 +279,56 @@ module _ (reads : MethodReadsBack) (client_writes : ConfigWrites example_client)
       header_reading.header_at header_reading.properties_at header_reading.optional_at table_at elements many
       named after_tag tagged value_at
   p11 =
-      client-asks p10 (Ask.Send 1 (Whole published)) ((one published.method) ∷ (header_of published)
-      ∷ (body_of published) ∷ []) refl (record { method = refl; header = refl; text = tt }) refl refl
+      client-asks p10 (Ask.Send 1 (Whole published)) ((one published.method) ∷ (header_frame published)
+      ∷ (body_frame published) ∷ []) refl (record { method = refl; header = refl; text = tt }) refl refl
 
   p12 : Pair example_client example_server c6 s6
   unfolding method_at header_at plain_method plain_header reading.method_at reading.args_at reading.field_at with_id
       header_reading.header_at header_reading.properties_at header_reading.optional_at table_at elements many
       named after_tag tagged value_at
   p12 =
-      server-takes p11 (one published.method) ((header_of published) ∷ (body_of published) ∷ []) refl
+      server-takes p11 (one published.method) ((header_frame published) ∷ (body_frame published) ∷ []) refl
       (λ e. absurd (false≢true e)) refl
 
   p13 : Pair example_client example_server c6 s7
   unfolding method_at header_at plain_method plain_header reading.method_at reading.args_at reading.field_at with_id
       header_reading.header_at header_reading.properties_at header_reading.optional_at table_at elements many
       named after_tag tagged value_at
-  p13 = server-takes p12 (header_of published) ((body_of published) ∷ []) refl (λ e. absurd (false≢true e)) refl
+  p13 = server-takes p12 (header_frame published) ((body_frame published) ∷ []) refl (λ e. absurd (false≢true e)) refl
 
   p14 : Pair example_client example_server c6 s8
   unfolding method_at header_at plain_method plain_header reading.method_at reading.args_at reading.field_at with_id
       header_reading.header_at header_reading.properties_at header_reading.optional_at table_at elements many
       named after_tag tagged value_at
-  p14 = server-takes p13 (body_of published) ([]) refl (λ e. absurd (false≢true e)) refl
+  p14 = server-takes p13 (body_frame published) ([]) refl (λ e. absurd (false≢true e)) refl
 
   p15 : Pair example_client example_server c6 s9
   unfolding method_at header_at plain_method plain_header reading.method_at reading.args_at reading.field_at with_id
       header_reading.header_at header_reading.properties_at header_reading.optional_at table_at elements many
       named after_tag tagged value_at
   p15 =
-      server-asks p14 (Ask.Send 1 (Whole delivered)) ((one delivered.method) ∷ (header_of delivered)
-      ∷ (body_of delivered) ∷ []) refl (record { method = refl; header = refl; text = tt }) refl refl
+      server-asks p14 (Ask.Send 1 (Whole delivered)) ((one delivered.method) ∷ (header_frame delivered)
+      ∷ (body_frame delivered) ∷ []) refl (record { method = refl; header = refl; text = tt }) refl refl
 
   p16 : Pair example_client example_server c7 s9
   unfolding method_at header_at plain_method plain_header reading.method_at reading.args_at reading.field_at with_id
       header_reading.header_at header_reading.properties_at header_reading.optional_at table_at elements many
       named after_tag tagged value_at
   p16 =
-      client-takes p15 (one delivered.method) ((header_of delivered) ∷ (body_of delivered) ∷ []) refl
+      client-takes p15 (one delivered.method) ((header_frame delivered) ∷ (body_frame delivered) ∷ []) refl
       (λ e. absurd (false≢true e)) refl
 
   p17 : Pair example_client example_server c8 s9
   unfolding method_at header_at plain_method plain_header reading.method_at reading.args_at reading.field_at with_id
       header_reading.header_at header_reading.properties_at header_reading.optional_at table_at elements many
       named after_tag tagged value_at
-  p17 = client-takes p16 (header_of delivered) ((body_of delivered) ∷ []) refl (λ e. absurd (false≢true e)) refl
+  p17 = client-takes p16 (header_frame delivered) ((body_frame delivered) ∷ []) refl (λ e. absurd (false≢true e)) refl
 
   p18 : Pair example_client example_server c9 s9
   unfolding method_at header_at plain_method plain_header reading.method_at reading.args_at reading.field_at with_id
       header_reading.header_at header_reading.properties_at header_reading.optional_at table_at elements many
       named after_tag tagged value_at
-  p18 = client-takes p17 (body_of delivered) ([]) refl (λ e. absurd (false≢true e)) refl
+  p18 = client-takes p17 (body_frame delivered) ([]) refl (λ e. absurd (false≢true e)) refl
 
   p19 : Pair example_client example_server c9 s10
   unfolding method_at header_at plain_method plain_header reading.method_at reading.args_at reading.field_at with_id

@@ -3,7 +3,7 @@ use Rattle.std.proofs.Common.{◌≡◌, ℕ, List, [], ◌∷◌, map, refl, ap
 use Rattle.amqp_model.specs.Wire.Frame.{Frame}
 use Rattle.amqp_model.specs.Wire.Methods.{ReadsBack}
 use Rattle.amqp_model.specs.Wire.Contents as contents
-use Rattle.amqp_model.specs.Wire.Contents.{Payload, Content, pieces, room_in}
+use Rattle.amqp_model.specs.Wire.Contents.{Payload, pieces, room_in}
 use Rattle.amqp_model.specs.Wire.Readings.{method_reading, header_reading, reading, payload_of}
 use Rattle.amqp_model.specs.End.Events.{Message, Plain, Whole}
 use Rattle.amqp_model.specs.End.Asks.{Send, payload_frame, message_payloads, method_asked}

@@ -18,7 +18,7 @@ use Rattle.amqp_model.specs.Wire.Gathering.{Gathering, HeaderDue, Step, Keeps, C
 use Rattle.amqp_model.specs.Wire.Readings.{Reading, Calls, UnknownMethod, MalformedMethod, HeaderOf, MalformedHeader}
 use Rattle.amqp_model.specs.Wire.Readings.{BodyOf, Beat, is_call, kind_of, payload_of}
 use Rattle.amqp_model.specs.End.Channels as channels
-use Rattle.amqp_model.specs.End.Channels.{Life, Channel, Phase, Handshake, Agreed, AwaitsProtocolHeader, AwaitsStart}
+use Rattle.amqp_model.specs.End.Channels.{Life, Channel, Phase, Handshake, Agreed, AwaitsStart}
 use Rattle.amqp_model.specs.End.Channels.{AwaitsStartOk, AwaitsTune, AwaitsTuneOk, AwaitsOpen, AwaitsOpenOk}
 use Rattle.amqp_model.specs.History.Negotiation.{Hello, OfClient, Config, FRAME_MIN, start_ok, tune, settled, smaller}
 use Rattle.amqp_model.specs.History.Negotiation.{tunes_too_small, tune_ok, agreed_in, in_range, connection_open}
@@ -30,7 +30,7 @@ use Rattle.amqp_model.specs.End.Closes.{connection_close_ok, channel_close, repl
 use Rattle.amqp_model.specs.End.Events.{Event, AnswerAsked, LoginAsked, OpenAsked, Peer, FrameVerdict, Proceeds}
 use Rattle.amqp_model.specs.End.Events.{RefusesContent, Faults}
 use Rattle.amqp_model.specs.End.FrameVerdict.{Facts, on_zero, on_channel, first_of, when_over, when_leaving}
-use Rattle.amqp_model.specs.End.FrameVerdict.{when_heartbeat, as_lives, lives_verdict, when_closing, when_unread}
+use Rattle.amqp_model.specs.End.FrameVerdict.{when_heartbeat, as_lives, lives_verdict, when_channel_closing, when_unread}
 use Rattle.amqp_model.specs.End.FrameVerdict.{closed_by, is_awaited, asked_or, on_awaited, in_step, when_handshake}
 use Rattle.amqp_model.specs.End.FrameVerdict.{is_no_channel, after_part, on_part, part_on, on_content, when_content}
 use Rattle.amqp_model.specs.End.FrameVerdict.{on_connection, when_connection, when_misdirected, when_no_channel}
@@ -357,7 +357,7 @@ by_lives-sound : {role : Role} (facts : Facts role) (reading : Reading) (kind : 
 by_lives-sound facts reading kind = lives-sound facts.number reading _
 
 closing-sound : {role : Role} (facts : Facts role) (channel : Channel) (reading : Reading)
-    → RuleSound facts.number (when_closing facts channel reading)
+    → RuleSound facts.number (when_channel_closing facts channel reading)
 closing-sound facts channels.Closing reading = by_lives-sound facts reading (kind_of reading)
 closing-sound facts channel reading = tt
 
@@ -513,7 +513,7 @@ verdict-sound role facts reading fits =
     (when_over facts.phase
     ∷ when_leaving facts.phase number reading
     ∷ when_heartbeat number reading
-    ∷ when_closing facts facts.channel reading
+    ∷ when_channel_closing facts facts.channel reading
     ∷ when_unread reading
     ∷ when_handshake facts facts.phase reading
     ∷ when_content facts reading

@@ -12,7 +12,7 @@ use Rattle.amqp_model.specs.Wire.Frame.{Frame}
 use Rattle.amqp_model.specs.Wire.Notes.{Role}
 use Rattle.amqp_model.specs.Wire.Methods.{plain_method, plain_header}
 use Rattle.amqp_model.specs.Wire.Contents as contents
-use Rattle.amqp_model.specs.Wire.Contents.{Payload, Content, first_pieces, pieces, room_in}
+use Rattle.amqp_model.specs.Wire.Contents.{Payload, first_pieces, room_in}
 use Rattle.amqp_model.specs.Wire.Readings.{Reading}
 use Rattle.amqp_model.specs.End.Channels.{End}
 use Rattle.amqp_model.specs.History.Negotiation.{FRAME_MIN}

@@ -13,7 +13,7 @@ use Rattle.amqp_model.specs.History.Negotiation.{Config}
 use Rattle.amqp_model.specs.End.StateFromHistory.{life_from, channel_in, channel_by, channel_from, channel_at, end_from}
 use Rattle.amqp_model.specs.End.Events.{Faults, AlreadyFailed}
 use Rattle.amqp_model.specs.End.FrameVerdict.{verdict_on}
-use Rattle.amqp_model.specs.End.Answers.{state_in, channel_state, gathered, reply_due}
+use Rattle.amqp_model.specs.End.Answers.{state_in, channel_state, octets_gathered, reply_due}
 use Rattle.amqp_model.specs.End.Asks.{channel_max, Ask, NotRunning, Refused, ask_verdict}
 use Rattle.amqp_model.specs.End.EndVerdict.{end_verdict}
 use Rattle.amqp_model.specs.End.Machine.{Counts, CountsOpen, StandsFor}
@@ -88,7 +88,7 @@ failed-state limit number phase channel e =
     always false = refl
 
 failed-answers : (end : End) (number : ℕ) → end.phase ≡ Failed → (channel_state end number ≡ State.Free)
-    × (gathered end number ≡ 0) × (reply_due end number ≡ None)
+    × (octets_gathered end number ≡ 0) × (reply_due end number ≡ None)
 failed-answers end number e =
     (failed-state (channel_max end.agreed) number end.phase (end.channels number) e, simp e, simp e)
 
@@ -98,7 +98,7 @@ answers-stand role config false end history number stands =
     let same = sym (end-stands role config end history stands) in
     record {
       state = ap (λ end. channel_state end number) same;
-      octets = ap (λ end. gathered end number) same;
+      octets = ap (λ end. octets_gathered end number) same;
       request = ap (λ end. reply_due end number) same;
     }
 answers-stand role config true end history number stands =

@@ -6,7 +6,7 @@ use Rattle.std.specs.Option.{option_to_list}
 use Rattle.std.proofs.lemmas.Bool.{true≢false, eq-eqb, ltb-false, not-true}
 use Rattle.std.proofs.lemmas.List.{map-append, reverse-append}
 use Rattle.amqp_model.specs.Wire.Frame.{Frame}
-use Rattle.amqp_model.specs.Wire.Notes.{Role, Kind, Other, Note, is_message}
+use Rattle.amqp_model.specs.Wire.Notes.{Role, Other, is_message}
 use Rattle.amqp_model.specs.Wire.Notes as notes_of
 use Rattle.amqp_model.specs.History.Lives.{lives}
 use Rattle.amqp_model.specs.Pair.Carried.{puts, sent}

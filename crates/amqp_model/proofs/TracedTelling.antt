@@ -14,7 +14,7 @@ use Rattle.amqp_model.specs.Wire.Gathering.{gathering}
 use Rattle.amqp_model.specs.Wire.Items.{item_ended}
 use Rattle.amqp_model.specs.Wire.Readings.{Reading, Calls, Beat, is_call, reading, kind_of}
 use Rattle.amqp_model.specs.History.Histories.{Took, History, entries_on, notes}
-use Rattle.amqp_model.specs.End.Channels.{Life, Channel, Free, Opening, Closing, HandshakeStep, AwaitsProtocolHeader}
+use Rattle.amqp_model.specs.End.Channels.{Life, Channel, Free, Opening, Closing, HandshakeStep}
 use Rattle.amqp_model.specs.End.Channels.{AwaitsStart, AwaitsStartOk, AwaitsTune, AwaitsTuneOk, AwaitsOpen}
 use Rattle.amqp_model.specs.End.Channels.{AwaitsOpenOk, Phase, Handshake, Running, Closed, Failed, Agreed, End}
 use Rattle.amqp_model.specs.End.Channels.{state_of}
@@ -192,10 +192,10 @@ module _ (role : Role) (config : Config role) (history : History) (frame : Frame
           (no-item (gathering (reverse (map payload_in (acted role now_life before)))) (reading frame) e)
           ∙ ap (telling_at (suc m) (life_on role (suc m) history)) (sym (no-item life.content (reading frame) e))
 
-  acts-not : (channel : Channel) → end.channels (suc m) ≡ channel → carried.is_open (state_of channel) ≡ false
+  acts-not : (channel : Channel) → end.channels (suc m) ≡ channel → carried.state_is_open (state_of channel) ≡ false
       → acts_next role before ≡ false
   acts-not channel c e =
-      off (has_left before) (ap carried.is_open (sym (state-reads role (entries_on (suc m) history)) ∙ ap state_of c)
+      off (has_left before) (ap carried.state_is_open (sym (state-reads role (entries_on (suc m) history)) ∙ ap state_of c)
       ∙ e)
     where
       off : (b : Bool) {acts : Bool} → acts ≡ false → (not b && acts) ≡ false
@@ -209,8 +209,8 @@ module _ (role : Role) (config : Config role) (history : History) (frame : Frame
       (verdict_on (facts_in config phase end.agreed (suc m) channel) (reading frame))))
   told-above Running p (channels.Open life) c g =
       let stays = stays-here role config end history m walked.stands p in
-      let open_is : carried.is_open (state role before) ≡ true =
-      ap carried.is_open (sym (state-reads role (entries_on (suc m) history)) ∙ ap state_of c) in
+      let open_is : carried.state_is_open (state role before) ≡ true =
+      ap carried.state_is_open (sym (state-reads role (entries_on (suc m) history)) ∙ ap state_of c) in
       let acts : acts_next role before ≡ true = simp (stays, open_is) in
       ap (λ b. cond b told_here []) acts
       ∙ (open-here life c stays ∙ ap (telling_at (suc m) (life_on role (suc m) history))

@@ -19,9 +19,8 @@ use Rattle.amqp_model.specs.Wire.Items.{Item, PlainMethod, FlowItem, FlowOkItem,
 use Rattle.amqp_model.specs.Wire.Readings.{Reading, Calls, UnknownMethod, MalformedMethod, HeaderOf, MalformedHeader}
 use Rattle.amqp_model.specs.Wire.Readings.{BodyOf, Beat, reading, kind_of, kind_of_method, payload_of}
 use Rattle.amqp_model.specs.History.Histories.{Put, Took, History}
-use Rattle.amqp_model.specs.End.Channels.{Life, Channel, Free, Opening, Closing, HandshakeStep, AwaitsProtocolHeader}
-use Rattle.amqp_model.specs.End.Channels.{AwaitsStart, AwaitsStartOk, AwaitsTune, AwaitsTuneOk, AwaitsOpen}
-use Rattle.amqp_model.specs.End.Channels.{AwaitsOpenOk, Phase, Handshake, Running, Closed, Failed, Agreed}
+use Rattle.amqp_model.specs.End.Channels.{Life, Channel, Free, Opening, Closing}
+use Rattle.amqp_model.specs.End.Channels.{Phase, Running, Agreed}
 use Rattle.amqp_model.specs.End.Channels as channels
 use Rattle.amqp_model.specs.History.Negotiation.{Config}
 use Rattle.amqp_model.specs.End.Closes.{CommandInvalid, ChannelError, ResourceError, UnexpectedFrame, FrameError}

@@ -19,7 +19,7 @@ use Rattle.amqp_model.specs.Wire.Readings.{BodyOf, Beat, reading, payload_of}
 use Rattle.amqp_model.specs.History.Histories.{History, entries_on, notes, entries_before_leaving}
 use Rattle.amqp_model.specs.End.Channels.{Life, Open, Phase, Handshake, Running, Closing, Closed, Failed, End}
 use Rattle.amqp_model.specs.History.Negotiation.{Config}
-use Rattle.amqp_model.specs.End.Answers.{first_of, due_by, reply_due}
+use Rattle.amqp_model.specs.End.Answers.{first_request, due_by, reply_due}
 use Rattle.amqp_model.specs.End.EndVerdict.{takes_octets}
 use Rattle.amqp_model.specs.End.ReadingBack.{WritesReadBack}
 use Rattle.amqp_model.specs.End.LawfulHistories.{Lawful}
@@ -197,7 +197,7 @@ keeps-unanswered role config end history n life back lawful stands opened =
 pub due-is-first : (role : Role) (config : Config role) (end : End) (history : History) (n : ℕ) (life : Life)
     → DueIsFirst role config end history n life
 due-is-first role config end history n life back lawful stands opened takes =
-    by-phase end.phase takes ∙ ap first_of (keeps-unanswered role config end history n life back lawful stands opened)
+    by-phase end.phase takes ∙ ap first_request (keeps-unanswered role config end history n life back lawful stands opened)
   where
     by-phase : (phase : Phase) → takes_octets phase ≡ true
         → reply_due (record { phase = phase; agreed = end.agreed; channels = end.channels })

@@ -18,7 +18,7 @@ use Rattle.amqp_model.specs.History.Negotiation.{Config}
 use Rattle.amqp_model.specs.End.FrameVerdict.{verdict_on}
 use Rattle.amqp_model.specs.End.EndVerdict.{goes_on}
 use Rattle.amqp_model.specs.End.Machine.{life_after, free_after_taking, opening_after_taking, closing_after_taking}
-use Rattle.amqp_model.specs.End.Machine.{open_after_taking, after_put, after_taken, may_put_here, HasItsRequest, Counts}
+use Rattle.amqp_model.specs.End.Machine.{open_after_taking, channel_after_put, after_taken, may_put_here, HasItsRequest, Counts}
 use Rattle.amqp_model.specs.End.Machine.{ChannelStandsFor}
 use Rattle.amqp_model.specs.Pair.Sent.{payload_in, items_in}
 use Rattle.amqp_model.specs.Pair.InTurn.{requests_in, InTurn}
@@ -134,7 +134,7 @@ fresh-keeps Server number history s a =
 pub takes-keeps : (role : Role) (config : Config role) (agreed : Option Agreed) (number : ℕ) (channel : Channel)
     (frame : Frame) (entries : List ChannelEntry) → (number == 0) ≡ false → Counts role channel entries
     → goes_on (verdict_on (running config agreed number channel) (reading frame)) ≡ true
-    → acts_next role (notes entries) ≡ carried.is_open (state_of channel)
+    → acts_next role (notes entries) ≡ carried.state_is_open (state_of channel)
     → InTurn (replies role (lives role (notes entries)) (notes entries))
     (requests role (lives role (notes entries)) (notes entries))
     → Keeps role channel (lives role (notes entries)) (notes entries)
@@ -223,7 +223,7 @@ heard-matched : (role : Role) (config : Config role) (agreed : Option Agreed) (n
     → Matched role entries → Matched role (TookHere (reading frame) frame ∷ entries)
 heard-matched role config agreed number channel frame entries stays counts above g old = record {
   in_turn = λ life. by-channel channel counts g acts kept life (old.in_turn life);
-  one_more = λ life. more (carried.is_open (state_of channel)) acts life (old.one_more life);
+  one_more = λ life. more (carried.state_is_open (state_of channel)) acts life (old.one_more life);
   keeps = keeps;
 }
   where
@@ -242,12 +242,12 @@ heard-matched role config agreed number channel frame entries stays counts above
     state_is =
         sym (state-reads role entries) ∙ ap state_of (counted role channel (entries_before_leaving entries) stands)
 
-    acts : acts_next role (notes entries) ≡ carried.is_open (state_of channel)
-    acts = let open_is = ap carried.is_open state_is in simp stays open_is
+    acts : acts_next role (notes entries) ≡ carried.state_is_open (state_of channel)
+    acts = let open_is = ap carried.state_is_open state_is in simp stays open_is
 
     by-channel : (channel : Channel) → Counts role channel entries
         → goes_on (verdict_on (running config agreed number channel) (reading frame)) ≡ true
-        → acts_next role (notes entries) ≡ carried.is_open (state_of channel)
+        → acts_next role (notes entries) ≡ carried.state_is_open (state_of channel)
         → Keeps role channel (lives role (notes entries)) (notes entries) → (life : ℕ)
         → InTurn (replies role life (notes entries)) (requests role life (notes entries))
         → InTurn (replies role life (notes (TookHere (reading frame) frame ∷ entries)))
@@ -308,7 +308,7 @@ put-matched role channel frame entries stays counts may asks old = record {
         (notes (PutHere (reading frame) frame ∷ entries)))
         (one-record role _ other (PutHere (reading frame) frame ∷ entries)
         (follows-put role channel (reading frame) frame entries stays stands may) other_stands)
-        (subst (λ l. Keeps role (after_put role (PutHere (reading frame) frame) channel (kind_of (reading frame)))
+        (subst (λ l. Keeps role (channel_after_put role (PutHere (reading frame) frame) channel (kind_of (reading frame)))
         (lives role (notes l)) (notes (PutHere (reading frame) frame ∷ entries))) (sym whole)
         (put-keeps frame (notes entries) role channel (kind_of (reading frame)) refl may
         (old.in_turn (lives role (notes entries))) kept))

@@ -14,12 +14,12 @@ use Rattle.amqp_model.specs.Wire.Gathering.{step, remains, gathering}
 use Rattle.amqp_model.specs.Wire.Readings.{Reading, Calls, reading, kind_of}
 use Rattle.amqp_model.specs.History.Replies.{request_made}
 use Rattle.amqp_model.specs.History.Histories.{ChannelEntry, PutHere, TookHere, notes, entries_before_leaving}
-use Rattle.amqp_model.specs.End.Channels.{Life, Channel, Free, Opening, Closing, Agreed, new_life, state_of}
+use Rattle.amqp_model.specs.End.Channels.{Life, Channel, Free, Opening, Closing, Agreed}
 use Rattle.amqp_model.specs.End.Channels as channels
 use Rattle.amqp_model.specs.History.Negotiation.{Config}
 use Rattle.amqp_model.specs.End.FrameVerdict.{on_open, on_idle, is_gathering, verdict_on}
 use Rattle.amqp_model.specs.End.EndVerdict.{goes_on}
-use Rattle.amqp_model.specs.End.Machine.{is_open, is_close_ok, requests_after, life_after, after_put, answers_in_turn}
+use Rattle.amqp_model.specs.End.Machine.{is_open_method, is_close_ok, requests_after, life_after, channel_after_put, answers_in_turn}
 use Rattle.amqp_model.specs.End.Machine.{may_put_here, IsAnswerable, ChannelStandsFor}
 use Rattle.amqp_model.specs.Pair.Sent.{payload_in, items_in}
 use Rattle.amqp_model.specs.Pair.InTurn.{requests_in, replies_in, InTurn}
@@ -157,7 +157,7 @@ quiet false l none = sym (none refl)
 -- A frame put.
 
 no-message-free : (role : Role) (kind : Kind) → is_message kind ≡ true
-    → ((is_client role && is_open kind) || is_close_ok kind) ≡ true → ⊥
+    → ((is_client role && is_open_method kind) || is_close_ok kind) ≡ true → ⊥
 no-message-free Client (Flow active) m e = false≢true e
 no-message-free Client (FlowOk active) m e = false≢true e
 no-message-free Client (Other begins) m e = false≢true e
@@ -318,7 +318,7 @@ module _ (frame : Frame) (history : List Note) where
       → may_put_here role channel (reading frame) ≡ true
       → InTurn (replies role (lives role history) history) (requests role (lives role history) history)
       → Keeps role channel (lives role history) history
-      → Keeps role (after_put role (PutHere (reading frame) frame) channel kind) (lives role put_note) put_note
+      → Keeps role (channel_after_put role (PutHere (reading frame) frame) channel kind) (lives role put_note) put_note
   put-keeps Client Free Open e may turn keeps = (
     ap (λ l. sent Client (lives Client put_note) (Put l frame ∷ history)) e
         ∙ (messages_other (lives Client put_note) (puts_of Client history) Open _ frame refl ∙ none.0),
@@ -334,7 +334,7 @@ module _ (frame : Frame) (history : List Note) where
   put-keeps role Opening kind e may turn keeps = absurd (false≢true may)
   put-keeps role Closing kind e may turn keeps = tt
   put-keeps role (channels.Open life) Open e may turn keeps =
-      absurd (true≢false (sym (ap is_open e) ∙ not-true _ (and_parts _ _ may).0))
+      absurd (true≢false (sym (ap is_open_method e) ∙ not-true _ (and_parts _ _ may).0))
   put-keeps role (channels.Open life) Close e may turn keeps = tt
   put-keeps role (channels.Open life) kind e may turn keeps =
       let same : lives role put_note ≡ lives role history = ap (λ kind. lives role (Put kind frame ∷ history)) e in

@@ -19,7 +19,7 @@ use Rattle.amqp_model.specs.End.Events.{Message, Plain, Whole, Negotiated, Opene
 use Rattle.amqp_model.specs.End.Events.{Discarded, Blocked, Quiet, Peer, Fatal, AlreadyClosed, AlreadyFailed}
 use Rattle.amqp_model.specs.End.Events.{FrameVerdict, Proceeds, RefusesContent, Faults}
 use Rattle.amqp_model.specs.End.Asks as asks
-use Rattle.amqp_model.specs.End.Asks.{Refusal, Ask, refusal, paused, flow_pending, reply_pending, no_such_request}
+use Rattle.amqp_model.specs.End.Asks.{Refusal, Ask, refusal, paused, reply_pending, no_such_request}
 use Rattle.amqp_model.specs.End.Machine.{end_after, end_after_taken, taken_verdict, new_end}
 
 -- a frame that says this, on its channel

@@ -14,7 +14,7 @@ use Rattle.amqp_model.specs.Pair.Carried.{puts, sent}
 use Rattle.amqp_model.specs.Wire.Methods.{Method, Properties, ReadsBack, carries_content, bit_at, header_at}
 use Rattle.amqp_model.specs.Wire.Methods.{plain_method, plain_header, class_of}
 use Rattle.amqp_model.specs.Wire.Contents.{Payload, Content, EndsFull, IsContent, cut, pieces, room_in}
-use Rattle.amqp_model.specs.Wire.Gathering.{Gathering, Nothing, HeaderDue, BodyDue, Step, Keeps, Completes, Breaks}
+use Rattle.amqp_model.specs.Wire.Gathering.{Gathering, Nothing, HeaderDue, BodyDue, Keeps, Completes}
 use Rattle.amqp_model.specs.Wire.Gathering.{gathered, step, remains, gathering}
 use Rattle.amqp_model.specs.Wire.Readings.{Reading, HeaderOf, reading, header_reading, kind_of, payload_of}
 use Rattle.amqp_model.specs.History.Histories.{Put, Took, History, TookHere, closes_connection, entries_on, notes}

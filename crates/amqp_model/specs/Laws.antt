@@ -19,3 +19,10 @@ pub mod Scripts
 pub mod ArrangementExamples
 pub mod PairExample
 pub mod GatedExample
+-- What the laws of more than four statements promise, a record a law.
+pub mod WordsRead
+pub mod ItemsFollow
+pub mod OutputFollows
+pub mod OctetsFollow
+pub mod ControlsFollow
+pub mod EndsFollow

@@ -8,8 +8,6 @@
 ghost use Rattle.amqp_model.specs.Pair.Agreement.{AgreesOnSmaller, AgreesPastHandshake, AgreesRunning, AgreesUngated};
 ghost use Rattle.amqp_model.specs.Pair.Agreement.{ClosedHasTakenAll, GoesOnAtZero, RunsWhereNextIsAbove};
 ghost use Rattle.amqp_model.specs.Pair.EndsAgree.{AllLivesAgree, NoContentFromAnyPaused};
-ghost use Rattle.amqp_model.specs.Pair.EndsTogether.{AskStandsTogether, EveryAskStaysPair, CarryStandsTogether};
-ghost use Rattle.amqp_model.specs.Pair.EndsTogether.{NewStandTogether, StandTogetherTurned};
 ghost use Rattle.amqp_model.specs.Pair.NoFault.{EveryNextIsMatched, EveryEndTakesWhatComesNext};
 ghost use Rattle.amqp_model.specs.Pair.OctetsInFlight.{EveryFeedStaysPair, NoFaultWithNextOctets, EveryGrownStaysPair};
 ghost use Rattle.amqp_model.specs.Pair.OctetsInFlight.{AllItemsAreActedOnOrWaiting, NothingWaitsForAnyClosed};
@@ -17,6 +15,7 @@ ghost use Rattle.amqp_model.specs.Pair.OctetsInFlight.{AllOctetsInFlightAreFrame
 ghost use Rattle.amqp_model.specs.Laws.GatedExample.{GatedExamplesArePairs};
 ghost use Rattle.amqp_model.specs.Laws.PairExample.{ExampleIsPair};
 ghost use Rattle.amqp_model.specs.Pair.WellPut.{NextIsWellPut, PutsWell};
+ghost use Rattle.amqp_model.specs.Laws.EndsFollow.{EndsStandTogether};
 
 use crate::fitting::written_reads_back;
 
@@ -105,11 +104,7 @@ pub fn ends_agree_on_lives()
 /// on with each ask that is accepted, and with each piece of the one's output that is fed to the other, in which no
 /// fault is found.
 pub fn ends_stand_together()
-    ensures new { NewStandTogether }
-    ensures turned { StandTogetherTurned }
-    ensures carried { CarryStandsTogether }
-    ensures asked { AskStandsTogether }
-    ensures pair { EveryAskStaysPair }
+    ensures { EndsStandTogether }
 {
     written_reads_back();
 }

@@ -9,14 +9,10 @@
 //! `IsOutputOf` joins an output with all that its end put and wrote.
 
 ghost use Rattle.amqp_model.specs.Laws.ArrangementExamples.{BegunAndPut, LeavingOnes, LongAndShort, RoundTheTop};
-ghost use Rattle.amqp_model.specs.Laws.ArrangementLaws.{AheadIsOfBegun, AllIsInOrder, AllIsPutAs, ArrangedByRules};
-ghost use Rattle.amqp_model.specs.Laws.ArrangementLaws.{ClosesStandAfter, LeavingIsPutLast, LeftIsArranged};
+ghost use Rattle.amqp_model.specs.Laws.ArrangementLaws.{AllIsInOrder, AllIsPutAs, ArrangedByRules, ClosesStandAfter};
 ghost use Rattle.amqp_model.specs.Laws.ArrangementLaws.{LowestAboveComesFirst, NoFewerStepsLead, NothingLeavesAfter};
-ghost use Rattle.amqp_model.specs.Laws.ArrangementLaws.{NothingWritten, OneIsLeft, OneRow, OutputAfterPut};
-ghost use Rattle.amqp_model.specs.Laws.ArrangementLaws.{OutputAfterPuts, OutputAfterWrite, OutputBegins};
-ghost use Rattle.amqp_model.specs.Laws.ArrangementLaws.{OutputFollowsRules, PlaceIsAfterItsQueue, PutArranges};
-ghost use Rattle.amqp_model.specs.Laws.ArrangementLaws.{PutExtendsChannels, PutLeavesBegun, PutMovesNone, PutsMakeRow};
-ghost use Rattle.amqp_model.specs.Laws.ArrangementLaws.{StepsLead, WaitsWhatIsNotBegun, WriteLeaves, WrittenThenLeft};
+ghost use Rattle.amqp_model.specs.Laws.ArrangementLaws.{OneRow, PutsMakeRow, StepsLead, WaitsWhatIsNotBegun};
+ghost use Rattle.amqp_model.specs.Laws.OutputFollows.{OutputFollows, PutKeepsArranged, WriteKeepsArranged};
 
 /// From one channel to another it is as many steps as counting up takes, where 1 comes after 65535. So the lowest
 /// channel above LAST comes first, else the lowest one.
@@ -41,32 +37,18 @@ pub fn one_row()
 /// A put keeps a row arranged. It moves no other frame, the new one is the last of its queue, and what is begun stays
 /// at the start.
 pub fn put_keeps_arranged()
-    ensures arranged { PutArranges }
-    ensures others { PutMovesNone }
-    ensures channels { PutExtendsChannels }
-    ensures leaving { LeavingIsPutLast }
-    ensures place { PlaceIsAfterItsQueue }
-    ensures begun { PutLeavesBegun }
+    ensures { PutKeepsArranged }
 {}
 
 /// A write leaves exactly one output: the octets after those written, and a row that is arranged from the new LAST.
 pub fn write_keeps_arranged()
-    ensures leaves { WriteLeaves }
-    ensures one { OneIsLeft }
-    ensures nothing { NothingWritten }
-    ensures octets { WrittenThenLeft }
-    ensures ahead { AheadIsOfBegun }
-    ensures arranged { LeftIsArranged }
+    ensures { WriteKeepsArranged }
 {}
 
 /// An output is that of all the frames put and all the octets written, from the beginning on through each put and
 /// each write; and its row follows the rules.
 pub fn output_follows()
-    ensures begins { OutputBegins }
-    ensures put { OutputAfterPut }
-    ensures puts { OutputAfterPuts }
-    ensures write { OutputAfterWrite }
-    ensures rules { OutputFollowsRules }
+    ensures { OutputFollows }
 {}
 
 /// What an end wrote and its output are the frames that it put: each channel's in order, and none after a

@@ -4,11 +4,9 @@
 //! requests without a reply, one at a client and 1,024 at a server. A new end keeps nothing, and no frame after which
 //! it goes on and no ask makes it keep more than that.
 
-ghost use Rattle.std.specs.Prelude.{ℕ};
 ghost use Rattle.amqp_model.specs.End.Amounts.{OneHeaderLength};
 ghost use Rattle.amqp_model.specs.End.Bounds.{EveryAskStaysWithin, EveryFrameStaysWithin, AllGatheredIsWithin};
-ghost use Rattle.amqp_model.specs.End.Bounds.{NewIsWithin, OthersAreFree, StandsWithin};
-ghost use Rattle.amqp_model.specs.End.Channels.{End};
+ghost use Rattle.amqp_model.specs.End.Bounds.{NewIsWithin, StandsWithin, AllOthersAreFree};
 ghost use Rattle.amqp_model.specs.End.Numbers.{StandsNumbered};
 ghost use Rattle.amqp_model.specs.Laws.AmountLaws.{ContentsAreWithin};
 
@@ -25,7 +23,7 @@ pub fn ends_are_bounded()
 /// 0 and of the channels above the agreed maximum.
 pub fn answers_are_bounded()
     ensures octets { AllGatheredIsWithin }
-    ensures states { (end : End) (n : ℕ) → OthersAreFree end n }
+    ensures states { AllOthersAreFree }
 {}
 
 /// No channel above the agreed maximum is kept: at most so many channels are other than Free.

@@ -8,17 +8,14 @@
 //!
 //! Payloads are in their order, the oldest first; what was taken is a history, the newest first.
 
-ghost use Rattle.std.specs.Prelude.{List, [], ◌∷◌};
-ghost use Rattle.amqp_model.specs.Laws.ContentLaws.{ContentEncodedAfter, CutFits, CutIsContent, CutIsShortest, CutsTo};
-ghost use Rattle.amqp_model.specs.Laws.ContentLaws.{GathersAfresh, GoesOnAsDue, StepsUnderWay, IsAtMostOneContent};
-ghost use Rattle.amqp_model.specs.Laws.ContentLaws.{IsRefusedPastSize, IsToldAtHeader, IsToldAtLastPart};
-ghost use Rattle.amqp_model.specs.Laws.ContentLaws.{ItemsAreEncoded, ItemsOfPrefix, KeepsItsOctets, KeepsUnderWay};
-ghost use Rattle.amqp_model.specs.Laws.ContentLaws.{MethodStandsAlone, NoContentAtStart, NothingAfterContent};
-ghost use Rattle.amqp_model.specs.Laws.ContentLaws.{NothingAfterMethod, OneMoreEncoded, OneUnderWay, PartsInPlace};
-ghost use Rattle.amqp_model.specs.Laws.ContentLaws.{EncodedAfresh, TellsItems, TellsMisfits, TellsWhole};
-ghost use Rattle.amqp_model.specs.Laws.ContentLaws.{UnfinishedEncodesNothing};
-ghost use Rattle.amqp_model.specs.Wire.Contents.{Payload};
-ghost use Rattle.amqp_model.specs.Wire.Items.{Item};
+ghost use Rattle.amqp_model.specs.Laws.ContentLaws.{CutFits, CutIsContent, CutIsShortest, GathersAfresh, GoesOnAsDue};
+ghost use Rattle.amqp_model.specs.Laws.ContentLaws.{StepsUnderWay, IsAtMostOneContent, IsRefusedPastSize};
+ghost use Rattle.amqp_model.specs.Laws.ContentLaws.{IsToldAtHeader, IsToldAtLastPart, KeepsItsOctets, KeepsUnderWay};
+ghost use Rattle.amqp_model.specs.Laws.ContentLaws.{NoContentAtStart, NothingAfterContent, NothingAfterMethod};
+ghost use Rattle.amqp_model.specs.Laws.ContentLaws.{OneUnderWay, PartsInPlace, TellsItems, TellsMisfits, TellsWhole};
+ghost use Rattle.amqp_model.specs.Laws.ContentLaws.{AllItemsAreEncoded, OneMoreMakesTwoParts, FullBodyIsOnePart};
+ghost use Rattle.amqp_model.specs.Laws.ContentLaws.{NoBodyIsNoPart};
+ghost use Rattle.amqp_model.specs.Laws.ItemsFollow.{ItemsFollow};
 
 /// Payloads are at most one content, and no content is a prefix of another. So a list of payloads falls into contents
 /// in one way only.
@@ -37,9 +34,9 @@ pub fn cut_is_content()
 
 /// In frames of 4096 octets a body of 4088 octets is one part, one more makes two, and none has none.
 pub fn sizes_of_cut()
-    ensures above { CutsTo 4096 4089 (4088 ∷ 1 ∷ []) }
-    ensures full { CutsTo 4096 4088 (4088 ∷ []) }
-    ensures empty { CutsTo 4096 0 [] }
+    ensures above { OneMoreMakesTwoParts }
+    ensures full { FullBodyIsOnePart }
+    ensures empty { NoBodyIsNoPart }
 {}
 
 /// At most one content is under way, and what goes on with it is of the kind that is due.
@@ -82,17 +79,12 @@ pub fn told_at_last()
 /// The items that the machine tells are those that the payloads encode.
 pub fn items_are_encoded()
     ensures item { TellsItems }
-    ensures items { (taken : List Payload) (list : List Item) → ItemsAreEncoded taken list }
+    ensures items { AllItemsAreEncoded }
 {}
 
 /// The items of a prefix are a prefix of the items. A payload adds the item that it ends; a content's payloads add that
 /// content; what is under way has added nothing; and where nothing is under way, as after a method that carries no
 /// content, the items of what comes after are added.
 pub fn items_follow()
-    ensures prefix { ItemsOfPrefix }
-    ensures one_more { OneMoreEncoded }
-    ensures content { ContentEncodedAfter }
-    ensures unfinished { UnfinishedEncodesNothing }
-    ensures later { EncodedAfresh }
-    ensures method { MethodStandsAlone }
+    ensures { ItemsFollow }
 {}

@@ -5,13 +5,10 @@
 //! one frame on channel 0, or is refused. They are steps of an end as asks are (`controls`, of `Goes`), so that all
 //! laws of one end and of two hold with them; these laws say what one of them makes of an end.
 
-ghost use Rattle.amqp_model.specs.Laws.ControlLaws.{EveryAcceptedControlFollows, ControlFollows, ControlHolds};
-ghost use Rattle.amqp_model.specs.Laws.ControlLaws.{ControlLeavesRest, ControlMovesPhase, EveryControlIsOfHistory};
-ghost use Rattle.amqp_model.specs.Laws.ControlLaws.{ControlPutsOne, ControlRefusedStays, ControlSaysNothing};
 ghost use Rattle.amqp_model.specs.Laws.ControlLaws.{ControlStandsTogether, ControlledFits, ControlledReadsBack};
-ghost use Rattle.amqp_model.specs.Laws.ControlLaws.{EveryControlStaysPair, ControllingLeavesAlike, ControlsAct};
-ghost use Rattle.amqp_model.specs.Laws.ControlLaws.{ControlsAlike, SettlesHeartbeat, UngatedAnswersAtOnce};
+ghost use Rattle.amqp_model.specs.Laws.ControlLaws.{EveryControlStaysPair, SettlesHeartbeat, UngatedAnswersAtOnce};
 ghost use Rattle.amqp_model.specs.Laws.ControlLaws.{UngatedNeverHolds};
+ghost use Rattle.amqp_model.specs.Laws.ControlsFollow.{ControlsFollow, ControlsFollowOctets};
 
 use crate::fitting::written_reads_back;
 
@@ -19,13 +16,7 @@ use crate::fitting::written_reads_back;
 /// the end keeps stands for its history with that frame. The handshake goes on, or ends, or the connection closes; no
 /// channel changes, and no message is said. Above channel 0 the end leaves, if it refuses, and does nothing else.
 pub fn controls_follow()
-    ensures history { EveryControlIsOfHistory }
-    ensures one { ControlPutsOne }
-    ensures follows { ControlFollows }
-    ensures phase { ControlMovesPhase }
-    ensures rest { ControlLeavesRest }
-    ensures acts { ControlsAct }
-    ensures says { ControlSaysNothing }
+    ensures { ControlsFollow }
 {}
 
 /// What is written for a control reads back, where the control and the configuration fit their fields. Its frame fits
@@ -40,11 +31,7 @@ pub fn controls_are_written()
 /// An endpoint that accepts a control goes on to stand for its history, and for what it was fed and wrote; one that
 /// refuses it stays as it is. What is unfinished is held, and alike endpoints stay alike.
 pub fn controls_follow_octets()
-    ensures accepted { EveryAcceptedControlFollows }
-    ensures refused { ControlRefusedStays }
-    ensures held { ControlHolds }
-    ensures answer { ControlsAlike }
-    ensures alike { ControllingLeavesAlike }
+    ensures { ControlsFollowOctets }
 {}
 
 /// Two endpoints that stand together do so still when one of them accepts a control, and their histories are a

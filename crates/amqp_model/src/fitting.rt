@@ -4,21 +4,17 @@
 //! of the method's kind, numbers fit their fields and strings their lengths. `MethodFits`, `ConfigFits` and `AskFits`
 //! say so of a method, of what an end is set up with and of what an application asks.
 
-ghost use Rattle.amqp_model.specs.Laws.FittingLaws.{AgreedIsWithin, AllAgreedStaysWithin, AllReadsBack};
-ghost use Rattle.amqp_model.specs.Laws.FittingLaws.{EveryAskKeepsAgreed, AllAskedAreWithin, AllAskedFit};
-ghost use Rattle.amqp_model.specs.Laws.FittingLaws.{AskedReadsBack, CloseFits, CloseIsShort, CloseReadsBack};
-ghost use Rattle.amqp_model.specs.Laws.FittingLaws.{FaultlessConfigFits, FittingConfigIsFaultless, FittingConfigWrites};
-ghost use Rattle.amqp_model.specs.Laws.FittingLaws.{FramesSayPayloads, HeaderReadsBack, MethodReadsBack};
+ghost use Rattle.amqp_model.specs.Laws.FittingLaws.{AgreedIsWithin, AllAgreedStaysWithin, EveryAskKeepsAgreed};
+ghost use Rattle.amqp_model.specs.Laws.FittingLaws.{AllAskedAreWithin, AllAskedFit, AskedReadsBack, CloseFits};
+ghost use Rattle.amqp_model.specs.Laws.FittingLaws.{CloseReadsBack, FaultlessConfigFits, FittingConfigIsFaultless};
+ghost use Rattle.amqp_model.specs.Laws.FittingLaws.{FittingConfigWrites, FramesSayPayloads, MethodReadsBack};
 ghost use Rattle.amqp_model.specs.Laws.FittingLaws.{AllOwedAreShort, OwedFit, OwedReadBack, StartFits};
-ghost use Rattle.amqp_model.specs.End.FrameVerdict.{Facts};
-ghost use Rattle.amqp_model.specs.Wire.Methods.{Header};
-ghost use Rattle.amqp_model.specs.History.Negotiation.{Config};
-ghost use Rattle.amqp_model.specs.Wire.Notes.{Role};
+ghost use Rattle.amqp_model.specs.Laws.FittingLaws.{EveryHeaderReadsBack, EverythingReadsBack, EveryCloseIsShort};
 
 /// What is written of a method, and of a content header, reads as it, where it fits its fields.
 pub fn written_reads_back()
     ensures method { MethodReadsBack }
-    ensures header { (header : Header) → HeaderReadsBack header }
+    ensures header { EveryHeaderReadsBack }
 {
     amqp_method::plain_is_encoded();
     amqp_method::encoded_is_read();
@@ -46,7 +42,7 @@ pub fn asked_reads_back()
 pub fn owed_read_back()
     ensures verdict { OwedReadBack }
     ensures too_large { CloseReadsBack }
-    ensures all { (role : Role) (config : Config role) → AllReadsBack role config }
+    ensures all { EverythingReadsBack }
 {
     written_reads_back();
 }
@@ -79,6 +75,6 @@ pub fn agreed_is_within()
 /// it puts where a frame is above the limit. Those that it puts for an accepted ask have at most the agreed number.
 pub fn frames_are_within()
     ensures verdict { AllOwedAreShort }
-    ensures too_large { (role : Role) (facts : Facts role) → CloseIsShort role facts }
+    ensures too_large { EveryCloseIsShort }
     ensures asked { AllAskedAreWithin }
 {}

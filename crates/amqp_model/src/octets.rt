@@ -6,13 +6,8 @@
 //! frames (`EndpointStandsFor`), the octets fed are those of the frames taken and a rest, and what it writes are the
 //! octets of the frames put.
 
-ghost use Rattle.amqp_model.specs.History.Negotiation.{Config};
-ghost use Rattle.amqp_model.specs.Wire.Notes.{Role};
-ghost use Rattle.amqp_model.specs.Laws.OctetLaws.{EveryAcceptedAskFollows, EveryCutGoesOn, EveryCutStops};
-ghost use Rattle.amqp_model.specs.Laws.OctetLaws.{EveryFailedEndWrites, EveryFeedFollows, FeedProgresses};
-ghost use Rattle.amqp_model.specs.Laws.OctetLaws.{EveryClosedStaysClosed, EveryFailedStaysFailed, EveryFeedTakesAll};
-ghost use Rattle.amqp_model.specs.Laws.OctetLaws.{EveryFeedTakesWithin, JudgedIsSaid, NewStands, OctetFollows};
-ghost use Rattle.amqp_model.specs.Laws.OctetLaws.{OneIsSaid, RefusedStays, EveryWriteFollows};
+ghost use Rattle.amqp_model.specs.Laws.OctetLaws.{JudgedIsSaid, OneIsSaid};
+ghost use Rattle.amqp_model.specs.Laws.OctetsFollow.{CutChangesNothing, OctetsFollow};
 
 use crate::fitting::written_reads_back;
 
@@ -27,26 +22,14 @@ pub fn judged_is_said()
 /// The same comes of octets however they are cut. Each piece that has octets loses one, none loses more than it has,
 /// and where nothing comes of a piece all of it is taken. An end that is closed, or has failed, takes nothing.
 pub fn cut_changes_nothing()
-    ensures goes_on { EveryCutGoesOn }
-    ensures stops { EveryCutStops }
-    ensures progress { FeedProgresses }
-    ensures within { EveryFeedTakesWithin }
-    ensures all { EveryFeedTakesAll }
-    ensures closed { EveryClosedStaysClosed }
-    ensures failed { EveryFailedStaysFailed }
+    ensures { CutChangesNothing }
 {}
 
 /// A new end stands for a history of nothing. What an end keeps stands for its history, for all octets fed and for all
 /// octets written, after each octet and each piece by which it does not fail, each ask and each write. Where it fails,
 /// the octets fed tell why, and its output is still that of what it put.
 pub fn octets_follow()
-    ensures new { (role : Role) (config : Config role) → NewStands role config }
-    ensures octet { OctetFollows }
-    ensures feed { EveryFeedFollows }
-    ensures accepted { EveryAcceptedAskFollows }
-    ensures refused { RefusedStays }
-    ensures wrote { EveryWriteFollows }
-    ensures wrote_failed { EveryFailedEndWrites }
+    ensures { OctetsFollow }
 {
     written_reads_back();
 }

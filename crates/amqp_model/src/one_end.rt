@@ -4,17 +4,14 @@
 //! agreed, and a small record of each channel. These laws say that this is enough: the record of a channel follows
 //! each entry of that channel, and what the end does with a frame or with an ask is what its history gives.
 
-ghost use Rattle.std.specs.Prelude.{List};
-ghost use Rattle.amqp_model.specs.Laws.EndLaws.{AllAnswersAreOfHistory, AnyFails, AskFollows, EveryAskIsOfHistory};
-ghost use Rattle.amqp_model.specs.Laws.EndLaws.{AsksActs, EndFollows, EndSteps, EveryFailedIsRead, EveryLowestIsFound};
-ghost use Rattle.amqp_model.specs.Laws.EndLaws.{FollowsPut, FollowsTaken, FrameFails, FrameFollows, LawfulStands};
-ghost use Rattle.amqp_model.specs.Laws.EndLaws.{LeavesOthers, NewEndStands, EveryRecordReads, ReadsState};
-ghost use Rattle.amqp_model.specs.Laws.EndLaws.{NoStandingEndHasFailed, StaysAtLeaving, StaysLeaving, StepFollows};
-ghost use Rattle.amqp_model.specs.Laws.EndLaws.{TakesActs, TooLargeFails, VerdictAgrees, EveryVerdictIsOfHistory};
-ghost use Rattle.amqp_model.specs.History.Histories.{ChannelEntry};
+ghost use Rattle.amqp_model.specs.Laws.EndLaws.{AllAnswersAreOfHistory, AskFollows, EveryAskIsOfHistory, AsksActs};
+ghost use Rattle.amqp_model.specs.Laws.EndLaws.{EndFollows, EndSteps, EveryLowestIsFound, FollowsPut, FollowsTaken};
+ghost use Rattle.amqp_model.specs.Laws.EndLaws.{FrameFollows, LawfulStands, LeavesOthers, NewEndStands};
+ghost use Rattle.amqp_model.specs.Laws.EndLaws.{EveryRecordReads, StaysAtLeaving, StaysLeaving, StepFollows, TakesActs};
+ghost use Rattle.amqp_model.specs.Laws.EndLaws.{VerdictAgrees, EveryVerdictIsOfHistory, EveryStateReads};
 ghost use Rattle.amqp_model.specs.Laws.LeavingLaws.{AllClosesArePutLast, AllOctetsArePutAs};
-ghost use Rattle.amqp_model.specs.Wire.Notes.{Role};
 ghost use Rattle.amqp_model.specs.Pair.Pairs.{BothLawful, RunsOnEach};
+ghost use Rattle.amqp_model.specs.Laws.EndsFollow.{FailedFollows};
 
 /// What an end keeps of a channel follows from what it kept before, the entry, and the facts that its verdict rests
 /// on, and stands for that channel's entries extended.
@@ -33,7 +30,7 @@ pub fn others_stay()
 /// The record of a channel is what the channel's entries count to, and its state the one of the lives of a channel.
 pub fn record_reads()
     ensures channel { EveryRecordReads }
-    ensures state { (role : Role) (entries : List ChannelEntry) → ReadsState role entries }
+    ensures state { EveryStateReads }
 {}
 
 /// The verdict of an end on a frame is the one that every history gives for which the end stands.
@@ -76,11 +73,7 @@ pub fn end_follows()
 /// end the phase, what was agreed and channel 0 are looked at, and no more. An end that stands for a history without a
 /// failure has not failed.
 pub fn failed_follows()
-    ensures frame { FrameFails }
-    ensures too_large { TooLargeFails }
-    ensures other { AnyFails }
-    ensures read { EveryFailedIsRead }
-    ensures not_yet { NoStandingEndHasFailed }
+    ensures { FailedFollows }
 {}
 
 /// Each lawful history is one that an end stands for: what is read off it, and what an end keeps that goes on with each

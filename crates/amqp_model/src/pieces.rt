@@ -5,19 +5,14 @@
 //! the words of its contract: a frame, none, a fault. The last three are about the protocol header, which a server
 //! reads before any frame. All of them rest on one fact of an end, `HoldsUnfinished`, which every call keeps.
 
-ghost use Rattle.amqp_model.specs.Stream.Pieces.{EveryAskHolds, EveryFeedBeginsOpening, EveryFeedEndsOpening};
-ghost use Rattle.amqp_model.specs.Stream.Pieces.{EveryFeedFindsFault, EveryFeedGivesFrame, EveryFeedHolds};
-ghost use Rattle.amqp_model.specs.Stream.Pieces.{EveryFeedLeavesOpening, EveryFeedWaits, NewHolds, StandsHolds};
-ghost use Rattle.amqp_model.specs.Stream.Pieces.{WroteHolds};
+ghost use Rattle.amqp_model.specs.Stream.Pieces.{EveryFeedBeginsOpening, EveryFeedEndsOpening, EveryFeedFindsFault};
+ghost use Rattle.amqp_model.specs.Stream.Pieces.{EveryFeedGivesFrame, EveryFeedLeavesOpening, EveryFeedWaits};
+ghost use Rattle.amqp_model.specs.Laws.OctetsFollow.{UnfinishedIsHeld};
 
 /// What is unfinished at an end is a proper prefix of the protocol header where that is awaited, and octets of one
 /// frame where frames are read: at a new end, at one that stands for a history, and after each piece, ask and write.
 pub fn unfinished_is_held()
-    ensures new { NewHolds }
-    ensures stands { StandsHolds }
-    ensures feed { EveryFeedHolds }
-    ensures ask { EveryAskHolds }
-    ensures wrote { WroteHolds }
+    ensures { UnfinishedIsHeld }
 {}
 
 /// Where a splitter answers with a frame, the end does what it does with that frame. Where it answers with none, all of

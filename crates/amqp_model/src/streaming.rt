@@ -7,22 +7,18 @@
 //! one that gathers.
 
 ghost use Rattle.amqp_model.specs.Laws.StreamingLaws.{AlikeIsEquality, AnswersAlike, AskingLeavesAlike, AsksAlike};
-ghost use Rattle.amqp_model.specs.Laws.StreamingLaws.{CameIsKept, EachFrameLends, EachIsGathered, EntriesLeaveAlike};
-ghost use Rattle.amqp_model.specs.Laws.StreamingLaws.{FeedsAlike, GathersAlike, KeptIsCame, LastIsWhole, PutsAlike};
-ghost use Rattle.amqp_model.specs.Laws.StreamingLaws.{PuttingLeavesAlike, RemainsAlike, StepsAlike, StreamFeedFollows};
+ghost use Rattle.amqp_model.specs.Laws.StreamingLaws.{EachFrameLends, EntriesLeaveAlike, FeedsAlike, KeptIsCame};
+ghost use Rattle.amqp_model.specs.Laws.StreamingLaws.{LastIsWhole, PutsAlike, PuttingLeavesAlike, StreamFeedFollows};
 ghost use Rattle.amqp_model.specs.Laws.StreamingLaws.{TakingLeavesAlike, VerdictsAlike, WholeIsCame};
 ghost use Rattle.amqp_model.specs.Laws.StreamingLaws.{WritingLeavesAlike};
+ghost use Rattle.amqp_model.specs.Laws.ItemsFollow.{ContentsAreStreamed};
 
 use crate::octets::octets_follow;
 
 /// What is kept of a content that is lent is what is known of the gathered one, after any payloads: as many octets have
 /// come as are gathered.
 pub fn contents_are_streamed()
-    ensures step { StepsAlike }
-    ensures remains { RemainsAlike }
-    ensures taken { GathersAlike }
-    ensures came { CameIsKept }
-    ensures each { EachIsGathered }
+    ensures { ContentsAreStreamed }
 {}
 
 /// The body of a whole content is what came, followed by the octets of its last part.

@@ -4,18 +4,15 @@
 //! they came, over all channels. These laws say by what each of the lists grows, so that a list that is grouped by
 //! channel, or that leaves out an item, is none of them.
 
-ghost use Rattle.std.specs.Prelude.{List};
-ghost use Rattle.amqp_model.specs.Wire.Frame.{Frame};
-ghost use Rattle.amqp_model.specs.History.Histories.{History};
 ghost use Rattle.amqp_model.specs.Stream.RunningOut.{RanOutStays, EveryRanOutEndWrites, EveryEndRunsOut};
 ghost use Rattle.amqp_model.specs.Stream.Traces.{NotesFrame, AllPutsTellNothing, EveryAskIsSaid, SaysMessage};
-ghost use Rattle.amqp_model.specs.Stream.Traces.{EveryMethodIsSaid, TakenSaysNothing, EveryEventIsTold, TracePuts};
-ghost use Rattle.amqp_model.specs.Stream.Traces.{TraceTakes};
+ghost use Rattle.amqp_model.specs.Stream.Traces.{EveryMethodIsSaid, TakenSaysNothing, EveryEventIsTold};
+ghost use Rattle.amqp_model.specs.Stream.Traces.{TraceTakes, AllPutsAreNoted};
 
 /// Each frame put or taken is noted once, after all earlier ones, with its channel and the word for what it is to its
 /// channel.
 pub fn frames_are_noted()
-    ensures put { (frames : List Frame) (history : History) → TracePuts frames history }
+    ensures put { AllPutsAreNoted }
     ensures taken { TraceTakes }
     ensures note { NotesFrame }
 {}

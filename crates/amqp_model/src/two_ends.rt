@@ -7,14 +7,13 @@
 //! octets of one end carry to the other, channel by channel.
 
 ghost use Rattle.amqp_model.specs.Laws.CarryingLaws.{CompletedComesNext, FramesAreOfChannel, NotesAreOfFrames};
-ghost use Rattle.amqp_model.specs.Laws.CarryingLaws.{OpeningsMeet, TakesPrefixOnEach};
-ghost use Rattle.amqp_model.specs.Wire.Notes.{Role};
+ghost use Rattle.amqp_model.specs.Laws.CarryingLaws.{TakesPrefixOnEach, AllOpeningsMeet};
 ghost use Rattle.amqp_model.specs.Pair.Pairs.{AllNewEndsPair, StepStaysPair};
-ghost use Rattle.amqp_model.specs.Laws.SentLaws.{OnEachPair, ActsOnPrefixOfItems, AllItemsActedOnAtClose};
-ghost use Rattle.amqp_model.specs.Laws.SentLaws.{AllItemsActedOnAtConnectionClose, AllItemsActedOnOfEnded};
-ghost use Rattle.amqp_model.specs.Laws.SentLaws.{FaultTellsNothing, ItemsSentAreActedOnOrInFlight};
-ghost use Rattle.amqp_model.specs.Laws.SentLaws.{NoItemsBeforeFirstLife, NothingIsOfChannel0, EveryEndSaysWhatItSends};
-ghost use Rattle.amqp_model.specs.Laws.SentLaws.{EveryEndTellsWhatItActsOn};
+ghost use Rattle.amqp_model.specs.Laws.SentLaws.{FaultTellsNothing, NothingIsOfChannel0, EveryEndSaysWhatItSends};
+ghost use Rattle.amqp_model.specs.Laws.SentLaws.{EveryEndTellsWhatItActsOn, EveryEndActsOnPrefixOfItems};
+ghost use Rattle.amqp_model.specs.Laws.SentLaws.{AllItemsActedOnAtEveryClose, AllItemsActedOnAtEveryConnectionClose};
+ghost use Rattle.amqp_model.specs.Laws.SentLaws.{AllItemsActedOnOfEveryEnded, AllItemsSentAreActedOnOrInFlight};
+ghost use Rattle.amqp_model.specs.Laws.SentLaws.{NoItemsBeforeAnyFirstLife};
 ghost use Rattle.amqp_model.specs.Pair.WholeMessages.{EachFitsNext, FitsWhatIsKept, PutsWholeMessages};
 
 /// Two new ends are a pair, and a pair stays one with each step of either end, where a frame that it takes is the next
@@ -35,26 +34,26 @@ pub fn whole_messages_are_put()
 
 /// In each life of a channel, the items that an end acted on are a prefix of those that the other sent.
 pub fn items_acted_on_are_prefix()
-    ensures { OnEachPair ActsOnPrefixOfItems }
+    ensures { EveryEndActsOnPrefixOfItems }
 {}
 
 /// Where the other's close ended a life, of the channel or of the connection, and was taken before the end put one,
 /// every item sent in that life was acted on.
 pub fn all_items_acted_on_at_close()
-    ensures channel { OnEachPair AllItemsActedOnAtClose }
-    ensures connection { OnEachPair AllItemsActedOnAtConnectionClose }
-    ensures ended { OnEachPair AllItemsActedOnOfEnded }
+    ensures channel { AllItemsActedOnAtEveryClose }
+    ensures connection { AllItemsActedOnAtEveryConnectionClose }
+    ensures ended { AllItemsActedOnOfEveryEnded }
 {}
 
 /// Where the channel is Opening or Open at an end that has not put connection.close, the items that the other sent in
 /// that life are those that the frames acted on and then the messages in flight encode, read one after the other.
 pub fn items_in_flight()
-    ensures { OnEachPair ItemsSentAreActedOnOrInFlight }
+    ensures { AllItemsSentAreActedOnOrInFlight }
 {}
 
 /// Before a channel's first life its end sends nothing, and acts on nothing.
 pub fn no_items_before_first_life()
-    ensures { OnEachPair (λ role channel mine theirs. NoItemsBeforeFirstLife role channel mine) }
+    ensures { NoItemsBeforeAnyFirstLife }
 {}
 
 /// What an end that has not failed tells, item by item as they end, is for each channel above 0 and each life what it
@@ -77,7 +76,7 @@ pub fn notes_are_of_frames()
 /// Where the octets that an end was fed are a prefix of those that the other put, the frames that it took are on each
 /// channel a prefix of those that the other put, and a frame that the next octets complete comes next.
 pub fn octets_carry_channels()
-    ensures opening { (role : Role) → OpeningsMeet role }
+    ensures opening { AllOpeningsMeet }
     ensures taken { TakesPrefixOnEach }
     ensures next { CompletedComesNext }
 {}

@@ -25,7 +25,7 @@ AllWithin [] = Unit {0}
 AllWithin (f ∷ frames) = (frame_length f ≤ GREATEST_FRAME) × AllWithin frames
 
 -- a fault stands after so many octets
-abbrev pub FaultAfter : ℕ → List ℕ → FrameFaultKind → ℕ → Type 0
+abbrev FaultAfter : ℕ → List ℕ → FrameFaultKind → ℕ → Type 0
 FaultAfter taken rest UnknownType at = (place : ℕ) × TellsFirst GREATEST_FRAME rest UnknownType place
     × (at ≡ place_after taken place)
 FaultAfter taken rest TooLarge at = (place : ℕ) × TellsFirst GREATEST_FRAME rest TooLarge place

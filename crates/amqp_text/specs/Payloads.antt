@@ -30,7 +30,7 @@ text_line text = record { text = codes "  " ++ text; is_fault = false }
 abbrev pub own_fault_number : (kind : ℕ) → List ℕ
 own_fault_number kind = codes "2." ++ decimal kind
 
-abbrev pub fault_number_text : MethodFaultKind → List ℕ
+abbrev fault_number_text : MethodFaultKind → List ℕ
 fault_number_text faults.UnknownMethod = codes "1"
 fault_number_text (faults.Value kind) = own_fault_number (fault_number kind)
 fault_number_text faults.Trailing = codes "3"
@@ -53,7 +53,7 @@ line_of_read text_of (Ok x) = text_line (text_of x)
 line_of_read text_of (Err fault) = fault_line_of fault
 
 -- the line below a frame's, if one stands there: of a method and of a header
-abbrev pub line_below : FrameKind → (payload : List ℕ) → Option Line
+abbrev line_below : FrameKind → (payload : List ℕ) → Option Line
 line_below Method payload = Some (line_of_read text_of_method (method_at payload))
 line_below Header payload = Some (line_of_read text_of_header (header_at payload))
 line_below Body payload = None

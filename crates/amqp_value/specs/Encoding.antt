@@ -35,7 +35,7 @@ tag_octet (array items) = 65  -- A
 tag_octet (table pairs) = 70  -- F
 
 -- the nineteen tags
-abbrev pub tags : List ℕ
+abbrev tags : List ℕ
 tags = 116 ∷ 98 ∷ 66 ∷ 115 ∷ 85 ∷ 117 ∷ 73 ∷ 105 ∷ 108 ∷ 76 ∷ 102 ∷ 100 ∷ 68 ∷ 84 ∷ 86 ∷ 83 ∷ 120 ∷ 65 ∷ 70 ∷ []
 
 abbrev pub IsNoTag : ℕ → Type 0

@@ -30,11 +30,11 @@ abbrev pub IsNestingTag : ℕ → Type 0
 IsNestingTag octet = (octet ≡ 65) ⊎ (octet ≡ 70)
 
 -- whole values, no deeper than the levels left
-abbrev pub EncodesItemsWithin : (levels : ℕ) → Items → List ℕ → Type 0
+abbrev EncodesItemsWithin : (levels : ℕ) → Items → List ℕ → Type 0
 EncodesItemsWithin levels items prefix = EncodesItems items prefix × (items_depth items ≤ levels)
 
 -- whole pairs, no deeper than the levels left
-abbrev pub EncodesPairsWithin : (levels : ℕ) → Pairs → List ℕ → Type 0
+abbrev EncodesPairsWithin : (levels : ℕ) → Pairs → List ℕ → Type 0
 EncodesPairsWithin levels pairs prefix = EncodesPairs pairs prefix × (pairs_depth pairs ≤ levels)
 
 mutual

@@ -5,12 +5,12 @@ use Rattle.amqp_value.specs.Values.{Scalar, boolean, short_short_int, short_shor
 use Rattle.amqp_value.specs.Values.{short_uint, long_int, long_uint, errata_long_long_int, long_long_int, Datum, scalar}
 use Rattle.amqp_value.specs.Values.{long_string, byte_array, array, table, Items, Pairs}
 
-abbrev pub truth_of : Scalar → Option Bool
+abbrev truth_of : Scalar → Option Bool
 truth_of (boolean holds) = Some holds
 truth_of other = None
 
 -- nine tags are whole numbers; a timestamp is none
-abbrev pub whole_of : Scalar → Option ℤ
+abbrev whole_of : Scalar → Option ℤ
 whole_of (short_short_int n) = Some n
 whole_of (short_short_uint n) = Some (pos n)
 whole_of (errata_short_int n) = Some n

@@ -23,7 +23,7 @@ abbrev pub ◌>>=◌ : {A B E : Type 0} → Result A E → (A → Result B E) �
 (Err e) >>= f = Err e
 
 -- What a call returned, seen by view, is what reading gives, unless memory ran out.
-abbrev pub Fails : {Y : Type 0} → ValueFault → Result Y ValueFault → Type 0
+abbrev Fails : {Y : Type 0} → ValueFault → Result Y ValueFault → Type 0
 Fails e read = (e ≡ out_of_memory) ⊎ (read ≡ Err e)
 
 abbrev pub Gives : {X Y : Type 0} → (X → Y) → Result X ValueFault → Result Y ValueFault → Type 0

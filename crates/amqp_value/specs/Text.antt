@@ -32,7 +32,7 @@ abbrev pub truth_text : Bool → List ℕ
 truth_text false = codes "t:0"
 truth_text true = codes "t:1"
 
-abbrev pub scalar_text : Scalar → List ℕ
+abbrev scalar_text : Scalar → List ℕ
 scalar_text (boolean holds) = truth_text holds
 scalar_text (short_short_int n) = codes "b:" ++ signed_decimal n
 scalar_text (short_short_uint n) = codes "B:" ++ decimal n

@@ -8,7 +8,7 @@ use Rattle.amqp_value.specs.declared.values.Value.{Value, fold-Value}
 use Rattle.amqp_value.specs.declared.values.Value.TheOpen.{Value-F}
 
 -- one level, with each value inside already seen as its datum
-abbrev pub view_step : Value-F Datum → Datum
+abbrev view_step : Value-F Datum → Datum
 view_step (Value-F.Boolean b) = scalar (boolean b)
 view_step (Value-F.ShortShortInt n) = scalar (short_short_int n)
 view_step (Value-F.ShortShortUint n) = scalar (short_short_uint n)

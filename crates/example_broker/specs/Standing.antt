@@ -19,7 +19,7 @@ abbrev pub Readies : Messages → Messages → ℕ → Bool → Type 0
 Readies old new place now = (other : ℕ) → is_ready new other ≡ (if other == place then now else is_ready old other)
 
 -- the message under the tag was sent, and waits to be acknowledged
-abbrev pub is_unacked : Channel → ℕ → Bool
+abbrev is_unacked : Channel → ℕ → Bool
 is_unacked channel tag = is_some (get nat_cmp channel.unacked tag)
 
 -- the same messages are unacknowledged, but that the tag is now `now`

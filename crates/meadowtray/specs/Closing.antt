@@ -26,7 +26,7 @@ close_view (Channel channel number text kind) = asks.CloseChannel channel number
 close_view (Connection number text kind) = asks.Close number text (cause_of kind)
 
 -- for a method of this kind
-abbrev pub close_by : GivenClose → Option Kind → Option Ask
+abbrev close_by : GivenClose → Option Kind → Option Ask
 close_by given None = None
 close_by given (Some kind) =
     if given.connection then Some (asks.Close given.code given.text.now (cause_of kind))

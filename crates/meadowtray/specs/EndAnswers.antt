@@ -1,6 +1,6 @@
 -- What an end behind a handle answers of itself, as it is told, and what a write of its output does.
 use Rattle.std.specs.Prelude.{◌≡◌, ◌<◌, ℕ, length, List, Option, Some, None, ◌⊎◌}
-use Rattle.amqp_model.specs.End.Answers.{channel_state, gathered, reply_due}
+use Rattle.amqp_model.specs.End.Answers.{channel_state, octets_gathered, reply_due}
 use Rattle.amqp_model.specs.End.Channels.{Agreed, End}
 use Rattle.amqp_model.specs.History.States.{State}
 use Rattle.amqp_model.specs.Output.Outputs.{output_octets, waiting_on}
@@ -58,7 +58,7 @@ pub record ToldChannel (end : End) (channel : ℕ) (out : ChannelTold) : Type 0 
   -- its state
   pub state : out.state ≡ state_told (channel_state end channel)
   -- the octets that came of a content under way
-  pub gathered_octets : out.gathered ≡ gathered end channel
+  pub gathered_octets : out.gathered ≡ octets_gathered end channel
   -- the request that is to be answered next
   pub due : out.reply_due ≡ kind_told (reply_due end channel)
 

@@ -111,7 +111,7 @@ open_status (Given arg.OutOfMemory) = 4
 open_status (Config fault) = config_status fault
 
 -- it stays closed: memory is refused, or there is a fault
-abbrev pub StaysClosed : (OpenFault → Type 0) → ℕ → Type 0
+abbrev StaysClosed : (OpenFault → Type 0) → ℕ → Type 0
 StaysClosed Not status = (status ≡ 4) ⊎ ((fault : OpenFault) × Not fault × (status ≡ open_status fault))
 
 -- what a client that is set up so is held as
@@ -128,7 +128,7 @@ HoldsServer given (Client kept) = ⊥
 HoldsServer given (LendingClient kept) = ⊥
 
 -- a closed handle is opened with this, or stays closed; an open one stays as it is
-abbrev pub Opens : (HeldEnd → Type 0) → (OpenFault → Type 0) → (old : Option HeldEnd) → ℕ
+abbrev Opens : (HeldEnd → Type 0) → (OpenFault → Type 0) → (old : Option HeldEnd) → ℕ
     → (new : Option HeldEnd) → Type 0
 Opens Holds Not None status (Some held) = (status ≡ 0) × Holds held
 Opens Holds Not None status None = StaysClosed Not status
@@ -153,7 +153,7 @@ pub data MakesPlace (old : List Place) (place status : ℕ) (new : List Place) :
   past : status ≡ 7 → length old < place → new ≡ old → MakesPlace old place status new
 
 -- the end stays as it is
-abbrev pub MakesOne : {E : Type 0} → (old : Kept E) → ℕ → ℕ → (new : Kept E) → Type 0
+abbrev MakesOne : {E : Type 0} → (old : Kept E) → ℕ → ℕ → (new : Kept E) → Type 0
 MakesOne old place status new = MakesPlace old.places.items place status new.places.items × (new.end ≡ old.end)
 
 -- one that lends has no places

@@ -30,7 +30,7 @@ pub record AreOctetsOf (letter : Letter) (method_octets header_octets : List ℕ
   pub header_is : IsHeaderOf letter.properties (length letter.body) header_octets
 
 -- the octets of a message stand at its place
-abbrev pub WritesEvent : Option Event → (method_octets header_octets : List ℕ) → Type 0
+abbrev WritesEvent : Option Event → (method_octets header_octets : List ℕ) → Type 0
 WritesEvent (Some (events.Told channel message)) method_octets header_octets =
     AreOctetsOf (message_view message) method_octets header_octets
 WritesEvent event method_octets header_octets = Unit {0}

@@ -31,7 +31,7 @@ long_long_there (Some number) = Some (long_long number)
 long_long_there None = None
 
 -- each property in its place, and nothing behind them is changed; or there are too few places
-abbrev pub ToldHeader : Result ContentHeader MethodFault → List Value → ℕ → List Value → HeaderRead → Type 0
+abbrev ToldHeader : Result ContentHeader MethodFault → List Value → ℕ → List Value → HeaderRead → Type 0
 ToldHeader (Ok h) old status new out =
     (out.body_size ≡ h.body_size) × (out.flags ≡ flags_of h.properties)
     × (((status ≡ 0) × (map argument_there (take 14 new) ≡ h.properties) × (drop 14 new ≡ drop 14 old))

@@ -18,7 +18,7 @@ use Rattle.meadowtray.specs.AnyEnds.{EndForgets, EndWrites, StreamForgets, Strea
 use Rattle.meadowtray.specs.declared.ends.any_end.AnyEnd.{Ghosts}
 
 -- what is said of an end that gathers
-abbrev pub of_end : {R H : Type 0} {G : role.Ghosts R H} → Ghosts (End R H G)
+abbrev of_end : {R H : Type 0} {G : role.Ghosts R H} → Ghosts (End R H G)
 of_end =
     record {
       endpoint = ends.endpoint_of;
@@ -34,7 +34,7 @@ of_end =
     }
 
 -- what is said of one that lends
-abbrev pub of_stream : {R H : Type 0} {G : role.Ghosts R H} → Ghosts (StreamEnd R H G)
+abbrev of_stream : {R H : Type 0} {G : role.Ghosts R H} → Ghosts (StreamEnd R H G)
 of_stream =
     record {
       endpoint = streams.endpoint_of;

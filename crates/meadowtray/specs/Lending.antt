@@ -19,7 +19,7 @@ abbrev pub FollowsSplitter : MutBor slot.Denot → MutBor splitter.Denot → Fml
 FollowsSplitter s r = Lends slot splitter s r (λ stream. holding s.now (Splitter stream))
 
 -- what a handle holds after its splitter was fed
-abbrev pub after_fed : Option Held → List ℕ → Result FedRef FrameFault → Option Held
+abbrev after_fed : Option Held → List ℕ → Result FedRef FrameFault → Option Held
 after_fed None piece answer = None
 after_fed (Some (Splitter s)) piece answer = Some (Splitter (after_feed_ref s piece answer))
 

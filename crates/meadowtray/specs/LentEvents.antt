@@ -26,7 +26,7 @@ TellsReason None out = out.holds ≡ false
 TellsReason (Some reason) out = (out.holds ≡ true) × (out.code ≡ reason.code) × (out.text.now ≡ reason.text)
 
 -- an event of which no content is a part
-abbrev pub TellsOther : events.Event → SeenEvent → Type 0
+abbrev TellsOther : events.Event → SeenEvent → Type 0
 TellsOther (events.Negotiated agreed) out =
     (out.kind ≡ 1) × (out.channel_max ≡ agreed.channel_max) × (out.frame_max ≡ agreed.frame_max)
     × (out.heartbeat ≡ agreed.heartbeat)
@@ -59,7 +59,7 @@ TellsEvent (Part channel octets whole) out =
 TellsEvent (Other event) out = TellsOther event out
 
 -- the event, if there is one
-abbrev pub TellsMaybe : Option LentEvent → FedEnd → SeenEvent → Type 0
+abbrev TellsMaybe : Option LentEvent → FedEnd → SeenEvent → Type 0
 TellsMaybe None fed out = fed.kind ≡ 0
 TellsMaybe (Some event) fed out = (fed.kind ≡ out.kind) × TellsEvent event out
 

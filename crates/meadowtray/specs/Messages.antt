@@ -52,7 +52,7 @@ NotRead IsFirst Misfit = ⊥
 NotRead IsFirst OutOfMemory = Unit {0}
 
 -- the header says another size than the body's
-abbrev pub OtherSize : (header_octets body : List ℕ) → Type 0
+abbrev OtherSize : (header_octets body : List ℕ) → Type 0
 OtherSize header_octets body = (h : ContentHeader) × EncodesHeader h header_octets × (h.body_size ≢ length body)
 
 -- why these octets aren't a content: the header can't be read or says another size, or no content follows

@@ -28,7 +28,7 @@ pub record ToldFields (c : Call) (old new : List Value) (out : MethodRead) : Typ
   pub others : drop out.count new ≡ drop out.count old
 
 -- what reading gives is told, or there is no room for it
-abbrev pub ToldMethod : Result Call MethodFault → List Value → ℕ → List Value → MethodRead → Type 0
+abbrev ToldMethod : Result Call MethodFault → List Value → ℕ → List Value → MethodRead → Type 0
 ToldMethod (Ok c) old status new out =
     ((status ≡ 0) × ToldFields c old new out)
     ⊎ ((status ≡ 7) × (length old < length c.args) × (out.kind ≡ kind_number c.kind))

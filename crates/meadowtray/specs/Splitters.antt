@@ -17,7 +17,7 @@ use Rattle.amqp_handle.specs.declared.held.Held.TheVariants.{Splitter}
 use Rattle.meadowtray.specs.declared.splitting.FedFrame.{FedFrame}
 
 -- the fault of a status above 100
-abbrev pub frame_fault : ℕ → FrameFaultKind
+abbrev frame_fault : ℕ → FrameFaultKind
 frame_fault status =
     if nat_eq status 101 then UnknownType
     else if nat_eq status 102 then TooLarge
@@ -26,7 +26,7 @@ frame_fault status =
     else Failed
 
 -- the frame of a type octet: 0 says that there is none
-abbrev pub frame_there : FedFrame → Option FrameRef
+abbrev frame_there : FedFrame → Option FrameRef
 frame_there out =
     if nat_eq out.kind 1 then Some (record { kind = Method; channel = out.channel; payload = out.payload })
     else if nat_eq out.kind 2 then Some (record { kind = Header; channel = out.channel; payload = out.payload })
@@ -82,7 +82,7 @@ SetsLimit None limit status new = (status ≡ 1) × (new ≡ None)
 SetsLimit (Some (Splitter s)) limit status new = LimitIsSet s limit status new ⊎ LimitStays s limit status new
 
 -- a splitter as it begins
-abbrev pub new_stream : ℕ → Stream
+abbrev new_stream : ℕ → Stream
 new_stream limit = record { pending = []; limit = limit; taken = 0; fault = None; taken_to_fault = 0; given = None }
 
 -- a closed handle is opened with a new splitter

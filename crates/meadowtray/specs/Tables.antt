@@ -40,7 +40,7 @@ pub record ToldPairs (table : Pairs) (size : ℕ) (old new : List Pair) (status 
   pub room : ((status ≡ 0) × (left ≡ []) × (out.placed ≡ out.count))
       ⊎ ((status ≡ 7) × (out.placed ≡ length old) × (out.placed < out.count))
 
-abbrev pub ToldTable : Result (Pairs × ℕ) ValueFault → List Pair → ℕ → List Pair → TableRead → Type 0
+abbrev ToldTable : Result (Pairs × ℕ) ValueFault → List Pair → ℕ → List Pair → TableRead → Type 0
 ToldTable (Ok x) old status new out = ToldPairs x.0 x.1 old new status out
 ToldTable (Err e) old status new out = (status ≡ value_status e.kind) × (out.at ≡ e.at) × (new ≡ old)
 
@@ -58,7 +58,7 @@ pub record ToldItems (all : List Datum) (size : ℕ) (old new : List Value) (sta
   pub room : ((status ≡ 0) × (left ≡ []) × (out.placed ≡ out.count))
       ⊎ ((status ≡ 7) × (out.placed ≡ length old) × (out.placed < out.count))
 
-abbrev pub ToldArray : Result (List Datum) ValueFault → ℕ → List Value → ℕ
+abbrev ToldArray : Result (List Datum) ValueFault → ℕ → List Value → ℕ
     → List Value → TableRead → Type 0
 ToldArray (Ok all) size old status new out = ToldItems all size old new status out
 ToldArray (Err e) size old status new out = (status ≡ value_status e.kind) × (out.at ≡ e.at) × (new ≡ old)
@@ -68,11 +68,11 @@ ReadsArray octets old status new out =
     ToldArray (elements (value_at 31) (length octets) octets) (length octets) old status new out
 
 -- the value under a name, or there is none
-abbrev pub ToldValue : Option Datum → ℕ → Value → Type 0
+abbrev ToldValue : Option Datum → ℕ → Value → Type 0
 ToldValue (Some value) status out = (status ≡ 0) × (datum_there out ≡ Some value)
 ToldValue None status out = status ≡ 8
 
-abbrev pub ToldNamed : List ℕ → Result (Pairs × ℕ) ValueFault → ℕ → Value → ℕ → Type 0
+abbrev ToldNamed : List ℕ → Result (Pairs × ℕ) ValueFault → ℕ → Value → ℕ → Type 0
 ToldNamed name (Ok x) status out at = ToldValue (value_named name x.0) status out
 ToldNamed name (Err e) status out at = (status ≡ value_status e.kind) × (at ≡ e.at)
 

@@ -39,7 +39,7 @@ PutInto octets old n new = (n ≡ length octets) × (take n new ≡ octets) × (
 -- ---- one value
 
 -- what is read is all of so many octets
-abbrev pub is_whole : Result (Pairs × ℕ) ValueFault → ℕ → Bool
+abbrev is_whole : Result (Pairs × ℕ) ValueFault → ℕ → Bool
 is_whole (Ok x) size = nat_eq x.1 size
 is_whole (Err e) size = false
 
@@ -147,7 +147,7 @@ IsMethod number values c =
     (kind_numbered number ≡ Some c.kind) × (map argument_there values ≡ all_there c.args) × Fits c
 
 -- the values are of other kinds than the method's fields
-abbrev pub Unlike : ℕ → List Value → ℕ → Type 0
+abbrev Unlike : ℕ → List Value → ℕ → Type 0
 Unlike number values place =
     (kind : Kind) × (kind_numbered number ≡ Some kind) × (place ≡ first_unlike (wanted (fields_of kind)) values)
     × ((args : List Argument) → map argument_there values ≡ all_there args → Fits (call kind args) → ⊥)

@@ -23,7 +23,7 @@ OfKind None kind = Unit {0}
 OfKind (Some value) kind = kind_of value ≡ kind
 
 -- a value is none, or one for a property of this kind; no property is of another kind than these four
-abbrev pub fits_property : FieldKind → Value → Bool
+abbrev fits_property : FieldKind → Value → Bool
 fits_property kinds.ShortStr v = nat_eq v.kind 0 || (nat_eq v.kind 6 && fits_field v)
 fits_property kinds.Table v = nat_eq v.kind 0 || (nat_eq v.kind 8 && fits_field v)
 fits_property kinds.Octet v = nat_eq v.kind 0 || (nat_eq v.kind 2 && fits_field v)

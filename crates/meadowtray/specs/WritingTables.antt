@@ -24,7 +24,7 @@ abbrev pub within : ℤ → ℤ → ℤ → Bool
 within least greatest n = int_le least n && int_le n greatest
 
 -- a value is one for its tag: a number or a count fits, and a table's octets are all of a table
-abbrev pub fits_tag : Value → Bool
+abbrev fits_tag : Value → Bool
 fits_tag v =
     if nat_eq v.kind 116 then true
     else (if nat_eq v.kind 98 then within (negsuc 127) (pos 127) (signed_number v)
@@ -48,7 +48,7 @@ fits_tag v =
     else false))))))))))))))))))
 
 -- the octets of a value aren't an array, or a table
-abbrev pub FaultInside : Value → ValueFault → Type 0
+abbrev FaultInside : Value → ValueFault → Type 0
 FaultInside v e =
     ((v.kind ≡ 65) × (elements (value_at 31) (length v.octets.now) v.octets.now ≡ Err e))
     ⊎ ((v.kind ≡ 70) × (table_at v.octets.now ≡ Err e))
@@ -71,7 +71,7 @@ abbrev pub one_there : List ℕ × Datum → List ℕ × Option Datum
 one_there p = (p.0, Some p.1)
 
 -- a name has fewer than 256 octets, and its value is one for its tag
-abbrev pub fits_pair : Pair → Bool
+abbrev fits_pair : Pair → Bool
 fits_pair p = nat_lt (length p.name.now) 256 && fits_tag p.value
 
 abbrev pub NotPair : Pair → ArgFault → Type 0
@@ -100,7 +100,7 @@ IsTable pairs table =
     (named : List (List ℕ × Datum)) × (map pair_there pairs ≡ named_there named) × (table ≡ pairs_of named)
 
 -- the pairs nest too deep
-abbrev pub TooDeepFor : List Pair → ℕ → ValueFault → Type 0
+abbrev TooDeepFor : List Pair → ℕ → ValueFault → Type 0
 TooDeepFor pairs place e = (place ≡ length pairs) × (e ≡ fault_at 0 TooDeep)
     × (named : List (List ℕ × Datum)) × (map pair_there pairs ≡ named_there named)
     × (32 < table_depth (pairs_of named))

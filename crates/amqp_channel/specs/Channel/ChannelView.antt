@@ -23,15 +23,9 @@ abbrev pub gathered_view : Channel → model.Channel
 gathered_view (Open life) = model.Open (life_view life)
 gathered_view channel = model.Free
 
--- the channel is Free; Opening; Closing; Open
+-- the channel is Free; Open
 abbrev pub IsFree : Channel → Type 0
 IsFree channel = channel_view channel ≡ model.Free
-
-abbrev pub IsOpening : Channel → Type 0
-IsOpening channel = channel_view channel ≡ model.Opening
-
-abbrev pub IsClosing : Channel → Type 0
-IsClosing channel = channel_view channel ≡ model.Closing
 
 abbrev pub IsOpen : Channel → Type 0
 IsOpen Free = ⊥

@@ -5,15 +5,15 @@ use Rattle.amqp_model.specs.Wire.Methods.{Properties, header_at}
 use Rattle.amqp_model.specs.Wire.Readings.{Reading, HeaderOf, header_reading}
 
 -- what a payload says is a header; the size of the body that it says; the properties
-abbrev pub is_header : Reading → Bool
+abbrev is_header : Reading → Bool
 is_header (HeaderOf size properties) = true
 is_header reading = false
 
-abbrev pub size_said : Reading → ℕ
+abbrev size_said : Reading → ℕ
 size_said (HeaderOf size properties) = size
 size_said reading = 0
 
-abbrev pub properties_said : Reading → Properties
+abbrev properties_said : Reading → Properties
 properties_said (HeaderOf size properties) = properties
 properties_said reading = []
 

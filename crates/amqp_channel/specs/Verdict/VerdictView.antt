@@ -153,7 +153,7 @@ replies_in (HeaderDue method) = is_reply method.kind
 replies_in (BodyDue method size properties body) = is_reply method.kind
 
 -- a client's reply that is a content takes its request away once it is whole
-abbrev pub completed_with : Role → Life → Life
+abbrev completed_with : Role → Life → Life
 completed_with Client life = record {
   content = Nothing;
   paused = life.paused;
@@ -211,11 +211,11 @@ BeginsContent (Calls method) = carries_content method ≡ true
 BeginsContent reading = ⊥
 
 -- a header; a part of a body
-abbrev pub IsHeader : model.Reading → Type 0
+abbrev IsHeader : model.Reading → Type 0
 IsHeader (HeaderOf size properties) = Unit {0}
 IsHeader reading = ⊥
 
-abbrev pub IsBody : model.Reading → Type 0
+abbrev IsBody : model.Reading → Type 0
 IsBody (BodyOf octets) = Unit {0}
 IsBody reading = ⊥
 

@@ -18,7 +18,7 @@ abbrev pub verdict_at : (role : Role) → Config role → Control → Endpoint �
 verdict_at role config control endpoint = control_verdict role config endpoint.end control
 
 -- what the end stands for goes on with the frame that is put
-abbrev ControlGoesOn : (role : Role) → Config role → Control → (old new : Endpoint) → Type 0
+abbrev pub ControlGoesOn : (role : Role) → Config role → Control → (old new : Endpoint) → Type 0
 ControlGoesOn role config control old new =
     (history : History) (fed written : List ℕ)
     → EndpointStandsFor role config old history fed written
@@ -26,7 +26,7 @@ ControlGoesOn role config control old new =
     written ∥₁
 
 -- what comes of it is what every history gives that the end stands for
-abbrev ControlIsOfHistory : (role : Role) → Config role → Control → Endpoint → Type 0
+abbrev pub ControlIsOfHistory : (role : Role) → Config role → Control → Endpoint → Type 0
 ControlIsOfHistory role config control old =
     (history : History) (fed written : List ℕ)
     → EndpointStandsFor role config old history fed written

@@ -13,7 +13,7 @@ use Rattle.amqp_core.specs.Faults.Numbers.{refusal_view}
 use Rattle.amqp_core.specs.declared.faults.AskFault.{AskFault}
 
 -- what the end stands for goes on with the frames that are put
-abbrev AskGoesOn : (role : Role) → Config role → Ask → (old new : Endpoint) → Type 0
+abbrev pub AskGoesOn : (role : Role) → Config role → Ask → (old new : Endpoint) → Type 0
 AskGoesOn role config ask old new =
     (history : History) (fed written : List ℕ)
     → EndpointStandsFor role config old history fed written

@@ -12,7 +12,7 @@ form_letter (Plain method) = letter_alone (method_view method.now)
 form_letter (Content method properties body) =
     letter_with (method_view method.now) (properties_view properties.now) body.now
 
-abbrev pub is_content : Form → Bool
+abbrev is_content : Form → Bool
 is_content (Plain method) = false
 is_content (Content method properties body) = true
 

@@ -30,8 +30,8 @@ start_ok_saying properties mechanism response locale =
     }
 
 -- the answer of a client with this hello to start, with what its application chose
-abbrev pub said_by : ClientHello → (mechanism response locale : List ℕ) → Method
-said_by hello mechanism response locale = start_ok_saying (table_view hello.properties) mechanism response locale
+abbrev pub start_ok_with : ClientHello → (mechanism response locale : List ℕ) → Method
+start_ok_with hello mechanism response locale = start_ok_saying (table_view hello.properties) mechanism response locale
 
 -- the open of a client with this hello
 abbrev pub IsOpen : ClientHello → Method → Type 0

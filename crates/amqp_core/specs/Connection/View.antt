@@ -42,7 +42,7 @@ abbrev pub frame_at : (number : ℕ) → FrameKind → List ℕ → Frame
 frame_at number kind payload = record { kind = kind; channel = number; payload = payload }
 
 -- what the frame leaves of the end, before what is owed is put
-abbrev pub taken_here : {role : Role} → Config role → (number : ℕ) → Reading → FrameKind → List ℕ → (before : End) → End
+abbrev taken_here : {role : Role} → Config role → (number : ℕ) → Reading → FrameKind → List ℕ → (before : End) → End
 taken_here {role} config number reading kind payload before =
     end_after role config number (TookHere reading (frame_at number kind payload)) before
 

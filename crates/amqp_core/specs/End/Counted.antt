@@ -4,7 +4,7 @@
 -- has failed stands beside it.
 use Rattle.std.specs.Prelude.{◌≡◌, ◌<◌, ◌≤◌, Bool, true, false, ℕ, List, length, Option, Some, None}
 use Rattle.amqp_model.specs.End.Answers as answers
-use Rattle.amqp_model.specs.End.Answers.{channel_state, first_of}
+use Rattle.amqp_model.specs.End.Answers.{channel_state, first_request}
 use Rattle.amqp_model.specs.Laws.AnswersInWords.{taken_on}
 use Rattle.amqp_model.specs.End.Asks.{channel_max}
 use Rattle.amqp_model.specs.End.Channels as channels
@@ -78,7 +78,7 @@ pub record PendingIs (role : Role) (config : Config role) (history : History) (f
 pub record GatheredIs (role : Role) (config : Config role) (failed : Bool) (history : History)
     (number : ℕ) (count : ℕ) : Type 0 where
   -- what is read off the history, in every phase and of every number
-  pub counted : count ≡ answers.gathered (end_from role config failed history) number
+  pub counted : count ≡ answers.octets_gathered (end_from role config failed history) number
   -- on an Open channel of a Running connection they are those of the body parts of the content under way
   pub under_way :
       phase_counted role failed history ≡ Running → IsOpenBy role failed history number
@@ -95,4 +95,4 @@ pub record DueIs (role : Role) (config : Config role) (failed : Bool) (history :
   -- on an Open channel it is the first request of its life that has no reply, among the items sent and acted on
   pub first :
       IsOpenBy role failed history number
-      → request ≡ first_of (unanswered_at role number (life_here role number history) history)
+      → request ≡ first_request (unanswered_at role number (life_here role number history) history)

@@ -24,7 +24,7 @@ AnswersPiece (Ok taken) outcome = AnswersEvent taken.event outcome
 AnswersPiece (Err fault) outcome = Reports fault outcome
 
 -- so many octets were taken, where that is answered
-abbrev CountsTaken : Result Seen CoreFault → ℕ → Type 0
+abbrev pub CountsTaken : Result Seen CoreFault → ℕ → Type 0
 CountsTaken (Ok taken) count = taken.octets ≡ count
 CountsTaken (Err fault) count = Unit {0}
 

@@ -3,7 +3,7 @@ use Rattle.std.specs.Prelude.{ℕ, ◌+◌, ◌≤◌, length}
 use Rattle.amqp_model.specs.Output.Outputs.{Output, output_octets}
 
 -- two frames of 4096 octets
-abbrev pub MOST_PUT : ℕ
+abbrev MOST_PUT : ℕ
 MOST_PUT = 8192
 
 -- a piece lets the output grow by two such frames at most

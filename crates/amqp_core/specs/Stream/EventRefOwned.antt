@@ -18,7 +18,7 @@ owned_event (Other event) = Some event
 owned_event event = None
 
 -- the text in an event
-abbrev pub text_in : Event → List ℕ
+abbrev text_in : Event → List ℕ
 text_in (events.ChannelClosed number (Some reason)) = reason.text
 text_in (events.ConnectionClosed (Some reason)) = reason.text
 text_in (events.Blocked reason) = reason

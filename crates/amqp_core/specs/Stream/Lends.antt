@@ -20,11 +20,11 @@ use Rattle.amqp_core.specs.declared.roles.Role.{Ghosts}
 use Rattle.amqp_core.specs.declared.stream.StreamEnd.{StreamEnd}
 
 -- what the definitions make of a piece that the end is fed
-abbrev lent_to : {R H : Type 0} {G : Ghosts R H} → StreamEnd R H G → (piece : List ℕ) → model.Feeding
+abbrev pub lent_to : {R H : Type 0} {G : Ghosts R H} → StreamEnd R H G → (piece : List ℕ) → model.Feeding
 lent_to end piece = after_feed (role_played end) (config_at end) (endpoint_of end) piece
 
 -- each history that the end stands for goes on with what comes of the piece
-abbrev StreamHistoriesGoOn : {R H : Type 0} {G : Ghosts R H} → (old : StreamEnd R H G) → (piece : List ℕ)
+abbrev pub StreamHistoriesGoOn : {R H : Type 0} {G : Ghosts R H} → (old : StreamEnd R H G) → (piece : List ℕ)
     → Result LentSeen CoreFault → (new : StreamEnd R H G) → Type 0
 StreamHistoriesGoOn old piece result new =
     (history : History) (fed written : List ℕ)

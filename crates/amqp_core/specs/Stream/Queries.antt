@@ -13,7 +13,7 @@ use Rattle.amqp_core.specs.declared.stage.Phase.{Phase}
 use Rattle.amqp_core.specs.declared.stream.StreamEnd.{StreamEnd}
 
 -- this holds of every history that the end stands for, and of the octets that it was fed
-abbrev pub OfEachHistory : {R H : Type 0} {G : Ghosts R H} → StreamEnd R H G → (History → (fed : List ℕ) → Type 0)
+abbrev OfEachHistory : {R H : Type 0} {G : Ghosts R H} → StreamEnd R H G → (History → (fed : List ℕ) → Type 0)
     → Type 0
 OfEachHistory end says =
     (history : History) (fed written : List ℕ)

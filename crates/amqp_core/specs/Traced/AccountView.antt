@@ -5,7 +5,7 @@ use Rattle.amqp_model.specs.End.Channels.{End}
 use Rattle.amqp_model.specs.End.Closes.{Owed}
 use Rattle.amqp_model.specs.End.EndVerdict.{end_verdict, facts_at, takes_frames}
 use Rattle.amqp_model.specs.Stream.Endpoint.{Endpoint, Feeding, Outcome, Unfinished, Finished, Found, awaits_opening}
-use Rattle.amqp_model.specs.Stream.Endpoint.{greeting, outcome_of, owed_at_fault}
+use Rattle.amqp_model.specs.Stream.Endpoint.{owed_at_start, outcome_of, owed_at_fault}
 use Rattle.amqp_model.specs.End.Events.{Quiet, WrongProtocolHeader}
 use Rattle.amqp_model.specs.Wire.Frame.{Frame}
 use Rattle.amqp_model.specs.End.FrameVerdict.{methods_put}
@@ -71,7 +71,7 @@ pub record IsAccount (role : Role) (config : Config role) (old : Endpoint) (piec
   pub waits : fed.outcome ≡ Unfinished → came ≡ puts_alone []
   pub greets :
       awaits_opening role old.end.phase ≡ true → fed.outcome ≡ Finished (Some Quiet)
-      → came ≡ puts_alone (greeting role config)
+      → came ≡ puts_alone (owed_at_start role config)
   pub takes :
       (frame : Frame) → takes_frames old.end.phase ≡ true → CompletesFrame old piece fed frame
       → came ≡ came_of_frame config old.end frame

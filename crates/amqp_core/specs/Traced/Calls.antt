@@ -50,7 +50,7 @@ pub record TraceHearsOn (role : Role) (config : Config role) (old : Kept) (piece
   pub keeps : KeepsHeard role config heard grows.after
 
 -- so of each history that the end was a trace of and of which it kept what was heard
-abbrev TraceHearingGoesOn :
+abbrev pub TraceHearingGoesOn :
     (role : Role) → Config role → (old : Kept) → (piece : List ℕ) → (new : Kept) → (before after : Heard) → Type 0
 TraceHearingGoesOn role config old piece new before after =
     (history : History) → IsTraceOf role config old history → KeepsHeard role config before history
@@ -61,7 +61,7 @@ abbrev pub fed_to : {R H : Type 0} {G : Ghosts R H} → Traced R H G → (piece 
 fed_to traced piece = after_feed (role_played traced) (config_at traced) (traced_of traced).endpoint piece
 
 -- each history that it is kept with goes on with what comes of the piece
-abbrev TracesGoOn : {R H : Type 0} {G : Ghosts R H} → (old : Traced R H G) → (piece : List ℕ)
+abbrev pub TracesGoOn : {R H : Type 0} {G : Ghosts R H} → (old : Traced R H G) → (piece : List ℕ)
     → Result Taken CoreFault → (new : Traced R H G) → Type 0
 TracesGoOn old piece result new =
     (history : History) → IsTraceOf (role_played old) (config_at old) (traced_of old) history

@@ -1,6 +1,6 @@
 -- An end and what is kept beside it.
 use Rattle.amqp_core.specs.End.View.{endpoint_of}
-use Rattle.amqp_core.specs.Traced.LedgerView.{notes_in, said_in, told_in}
+use Rattle.amqp_core.specs.Traced.LedgerView.{notes_in, tells_in, told_in}
 use Rattle.amqp_core.specs.Traced.Tracing.{Kept}
 use Rattle.amqp_core.specs.declared.end.End.{End}
 use Rattle.amqp_core.specs.declared.ledger.Ledger.{Ledger}
@@ -11,7 +11,7 @@ kept_of end ledger = record {
   endpoint = endpoint_of end;
   notes = notes_in ledger;
   told = told_in ledger;
-  said = said_in ledger;
+  said = tells_in ledger;
   fed = ledger.fed.items;
   written = ledger.written.items;
 }

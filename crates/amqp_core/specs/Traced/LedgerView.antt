@@ -12,8 +12,8 @@ notes_in ledger = map note_view ledger.notes.items
 abbrev pub told_in : Ledger → List Telling
 told_in ledger = map telling_view ledger.told.items
 
-abbrev pub said_in : Ledger → List Telling
-said_in ledger = map telling_view ledger.said.items
+abbrev pub tells_in : Ledger → List Telling
+tells_in ledger = map telling_view ledger.said.items
 
 -- room for so many notes more, of three channels at most, for an item that is told and one that is said, and for so
 -- many octets that are fed
@@ -29,7 +29,7 @@ pub record GivesBack (to_write : ℕ) (old new : Ledger) : Type 0 where
   pub room : vec_len new.written + to_write ≤ vec_capacity new.written
   pub notes : notes_in new ≡ notes_in old
   pub told : told_in new ≡ told_in old
-  pub said : said_in new ≡ said_in old
+  pub said : tells_in new ≡ tells_in old
   pub fed : new.fed.items ≡ old.fed.items
   pub written : new.written.items ≡ old.written.items
   pub side : new.side ≡ old.side

@@ -37,7 +37,7 @@ lives_in role notes channel = (counted_lives role channel notes).lives
 abbrev noted_zero : Noted
 noted_zero = record { channel = 0; direction = IsPut; word = Other }
 
-abbrev pub by_role : {A : Type 0} → Role → (client server : A) → A
+abbrev by_role : {A : Type 0} → Role → (client server : A) → A
 by_role Client client server = client
 by_role Server client server = server
 
@@ -60,9 +60,9 @@ notes_owed role (owed.OnChannel number answer) = noted_as IsPut number (word_of_
 notes_owed role (owed.ChannelClose number code) = noted_as IsPut number Close ∷ []
 
 -- what a frame that was taken tells
-abbrev pub told_by : (lives : ℕ → ℕ) → Option Noted → Option Item → List Telling
-told_by lives None item = []
-told_by lives (Some note) item = telling_at note.channel (lives note.channel) item
+abbrev pub note_tells : (lives : ℕ → ℕ) → Option Noted → Option Item → List Telling
+note_tells lives None item = []
+note_tells lives (Some note) item = telling_at note.channel (lives note.channel) item
 
 -- what is said by methods that are put, in the lives that their channels have then
 abbrev said_of : (lives : ℕ → ℕ) → List closes.Owed → List Telling

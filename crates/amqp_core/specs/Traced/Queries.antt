@@ -14,11 +14,11 @@ use Rattle.amqp_core.specs.declared.stage.Phase.{Phase}
 use Rattle.amqp_core.specs.declared.traced.Traced.{Traced}
 
 -- the end has failed
-abbrev pub has_failed : {R H : Type 0} {G : Ghosts R H} → Traced R H G → Bool
+abbrev has_failed : {R H : Type 0} {G : Ghosts R H} → Traced R H G → Bool
 has_failed traced = is_failed (traced_of traced).endpoint.end.phase
 
 -- the end is the trace of the history
-abbrev IsKeptWith : {R H : Type 0} {G : Ghosts R H} → Traced R H G → History → Type 0
+abbrev pub IsKeptWith : {R H : Type 0} {G : Ghosts R H} → Traced R H G → History → Type 0
 IsKeptWith traced history = IsTraceOf (role_played traced) (config_at traced) (traced_of traced) history
 
 pub record OfItsHistory {R H : Type 0} {G : Ghosts R H} (traced : Traced R H G) (says : History → Type 0) : Type 0 where

@@ -1,11 +1,11 @@
 -- How many octets an end keeps for its peer: of each channel the header of the content under way and what has come of
 -- its body, and what has come of a frame that isn't whole. AMQP 0-9-1 has no such words; they are this profile's.
-use Rattle.std.specs.Prelude.{◌≡◌, ◌≤◌, ℕ, zero, suc, ◌+◌, List, [], length}
+use Rattle.std.specs.Prelude.{◌≡◌, ◌≤◌, ℕ, zero, suc, ◌+◌, List, length}
 use Rattle.amqp_value.specs.Lengths.{capped}
 use Rattle.amqp_method.specs.Properties.{EncodesHeader}
 use Rattle.amqp_model.specs.Wire.Gathering.{Gathering, Nothing, HeaderDue, BodyDue}
 use Rattle.amqp_model.specs.Wire.Methods.{Header, plain_header}
-use Rattle.amqp_model.specs.End.Answers.{gathered, kept_by}
+use Rattle.amqp_model.specs.End.Answers.{octets_gathered, kept_by}
 use Rattle.amqp_model.specs.End.Channels.{Channel, Open, End}
 use Rattle.amqp_model.specs.Stream.Endpoint.{Endpoint}
 
@@ -39,7 +39,7 @@ contents_kept most end =
     + sum_to most (λ number. body_octets_on (end.channels number))
 
 -- and of a frame that isn't whole
-abbrev pub octets_kept : (most : ℕ) → Endpoint → ℕ
+abbrev octets_kept : (most : ℕ) → Endpoint → ℕ
 octets_kept most endpoint = contents_kept most endpoint.end + length endpoint.unfinished
 
 -- so many octets are kept in all
@@ -48,7 +48,7 @@ KeepsOctets endpoint count = (most : ℕ) → 65535 ≤ most → count ≡ cappe
 
 -- so many octets of bodies are gathered on all channels
 abbrev pub GathersOctets : End → (count : ℕ) → Type 0
-GathersOctets end count = (most : ℕ) → 65535 ≤ most → count ≡ capped (sum_to most (gathered end))
+GathersOctets end count = (most : ℕ) → 65535 ≤ most → count ≡ capped (sum_to most (octets_gathered end))
 
 -- every encoding of a header has as many octets as the plain one
 abbrev pub OneHeaderLength : Type 0

@@ -26,15 +26,15 @@ kept_in Running channel = kept_by channel
 kept_in phase channel = []
 
 -- how many octets of a body are kept of the content under way, while the connection is Running
-abbrev pub gathered : End → (number : ℕ) → ℕ
-gathered end number = length (kept_in end.phase (end.channels number))
+abbrev pub octets_gathered : End → (number : ℕ) → ℕ
+octets_gathered end number = length (kept_in end.phase (end.channels number))
 
-abbrev pub first_of : List MethodKind → Option MethodKind
-first_of [] = None
-first_of (request ∷ later) = Some request
+abbrev pub first_request : List MethodKind → Option MethodKind
+first_request [] = None
+first_request (request ∷ later) = Some request
 
 abbrev pub due_by : Channel → Option MethodKind
-due_by (Open life) = first_of life.requests
+due_by (Open life) = first_request life.requests
 due_by channel = None
 
 abbrev pub due_in : Phase → Channel → Option MethodKind

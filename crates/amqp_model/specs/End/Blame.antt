@@ -322,7 +322,7 @@ fault_of_kind kind payload = None
 abbrev field_fault : Frame → Option MethodFault
 field_fault frame = fault_of_kind frame.kind frame.payload
 
-abbrev pub told_of : Frame → Rule → Blame
+abbrev told_of : Frame → Rule → Blame
 told_of frame rule =
     record {
       rule = rule;

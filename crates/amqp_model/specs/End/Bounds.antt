@@ -10,7 +10,7 @@ use Rattle.amqp_model.specs.Wire.Readings.{reading}
 use Rattle.amqp_model.specs.History.Histories.{History}
 use Rattle.amqp_model.specs.End.Channels.{Life, Channel, Open, End}
 use Rattle.amqp_model.specs.History.Negotiation.{Config}
-use Rattle.amqp_model.specs.End.Answers.{channel_state, gathered}
+use Rattle.amqp_model.specs.End.Answers.{channel_state, octets_gathered}
 use Rattle.amqp_model.specs.End.Asks.{Ask, channel_max, is_made, method_asked, Puts, ask_verdict}
 use Rattle.amqp_model.specs.End.EndVerdict.{end_verdict, goes_on}
 use Rattle.amqp_model.specs.End.ReadingBack.{WritesReadBack}
@@ -79,7 +79,7 @@ StandsWithin =
 
 -- what is kept of a body, as it is answered, is less than the greatest body, or nothing
 abbrev pub GatheredIsWithin : (role : Role) → Config role → End → (n : ℕ) → Type 0
-GatheredIsWithin role config end n = EndIsWithin role config end → gathered end n ≤ config.max_body
+GatheredIsWithin role config end n = EndIsWithin role config end → octets_gathered end n ≤ config.max_body
 
 -- What an end within its bounds has gathered is no more than the greatest body.
 abbrev pub AllGatheredIsWithin : Type 0
@@ -88,3 +88,7 @@ AllGatheredIsWithin = (role : Role) (config : Config role) (end : End) (n : ℕ)
 -- channel 0, and the channels above the agreed maximum, are Free
 abbrev pub OthersAreFree : End → (n : ℕ) → Type 0
 OthersAreFree end n = (n ≡ 0) ⊎ (channel_max end.agreed < n) → channel_state end n ≡ State.Free
+
+-- Channel 0, and the channels above the agreed maximum, are Free.
+abbrev pub AllOthersAreFree : Type 0
+AllOthersAreFree = (end : End) (n : ℕ) → OthersAreFree end n

@@ -61,11 +61,6 @@ pub record ConfigFits {role : Role} (config : Config role) : Type 0 where
 pub data ConfigFault : Type 0 where
   FrameMax ChannelMax HelloTooLong : ConfigFault
 
-abbrev pub config_fault_number : ConfigFault → ℕ
-config_fault_number FrameMax = 1
-config_fault_number ChannelMax = 2
-config_fault_number HelloTooLong = 3
-
 -- the first that applies: the greatest frame is below 4096 octets or above 1048576; there is no channel; the greeting
 -- is longer than a frame of 4096 octets
 abbrev pub config_fault : (role : Role) → Config role → Option ConfigFault

@@ -116,9 +116,9 @@ lives_verdict {role} facts reading kind =
 
 -- The end has put channel.close on the channel: it answers a close that crosses its own, and close-ok frees the
 -- number. All else it drops, also what does not parse.
-abbrev pub when_closing : {role : Role} → Facts role → Channel → Reading → Option FrameVerdict
-when_closing facts Closing reading = Some (lives_verdict facts reading (kind_of reading))
-when_closing facts channel reading = None
+abbrev pub when_channel_closing : {role : Role} → Facts role → Channel → Reading → Option FrameVerdict
+when_channel_closing facts Closing reading = Some (lives_verdict facts reading (kind_of reading))
+when_channel_closing facts channel reading = None
 
 -- A method has to be one that there is, and to parse.
 abbrev pub when_unread : Reading → Option FrameVerdict
@@ -180,7 +180,7 @@ in_step role config agreed step method =
     (cond (is_client role && same_kind method.kind kinds.ConnectionSecure) (fault NotImplemented)
     (cond (is_awaited step method.kind) (on_awaited role config agreed step method) (fault CommandInvalid)))
 
-abbrev pub in_handshake : {role : Role} → Facts role → channels.HandshakeStep → Reading → FrameVerdict
+abbrev in_handshake : {role : Role} → Facts role → channels.HandshakeStep → Reading → FrameVerdict
 in_handshake {role} facts step (Calls method) =
     cond (facts.number == 0) (in_step role facts.config facts.agreed step method) (fault CommandInvalid)
 in_handshake facts step reading = fault CommandInvalid
@@ -309,7 +309,7 @@ verdict_on facts reading =
     (when_over facts.phase
     ∷ when_leaving facts.phase facts.number reading
     ∷ when_heartbeat facts.number reading
-    ∷ when_closing facts facts.channel reading
+    ∷ when_channel_closing facts facts.channel reading
     ∷ when_unread reading
     ∷ when_handshake facts facts.phase reading
     ∷ when_content facts reading

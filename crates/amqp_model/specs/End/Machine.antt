@@ -82,11 +82,11 @@ abbrev pub open_after_putting : Role → ChannelEntry → Life → Kind → Chan
 open_after_putting role entry life Kind.Close = Closing
 open_after_putting role entry life kind = Open (life_after role entry life)
 
-abbrev pub after_put : Role → ChannelEntry → Channel → Kind → Channel
-after_put role entry Free kind = free_after_putting role kind
-after_put role entry Opening kind = Opening
-after_put role entry Closing kind = Closing
-after_put role entry (Open life) kind = open_after_putting role entry life kind
+abbrev pub channel_after_put : Role → ChannelEntry → Channel → Kind → Channel
+channel_after_put role entry Free kind = free_after_putting role kind
+channel_after_put role entry Opening kind = Opening
+channel_after_put role entry Closing kind = Closing
+channel_after_put role entry (Open life) kind = open_after_putting role entry life kind
 
 -- an open taken begins a life at a server
 abbrev pub free_after_taking : Role → Kind → Channel
@@ -116,7 +116,7 @@ after_taken role entry Closing kind = closing_after_taking kind
 after_taken role entry (Open life) kind = open_after_taking role entry life kind
 
 abbrev pub channel_after : Role → ChannelEntry → Channel → Channel
-channel_after role (PutHere reading frame) channel = after_put role (PutHere reading frame) channel (kind_of reading)
+channel_after role (PutHere reading frame) channel = channel_after_put role (PutHere reading frame) channel (kind_of reading)
 channel_after role (TookHere reading frame) channel =
     after_taken role (TookHere reading frame) channel (kind_of reading)
 channel_after role LeftHere channel = channel
@@ -286,9 +286,9 @@ abbrev pub answers_in_turn : Role → List MethodKind → Reading → Bool
 answers_in_turn Server requests (Calls method) = not (is_reply method.kind) || answers_first method.kind requests
 answers_in_turn role requests reading = true
 
-abbrev pub is_open : Kind → Bool
-is_open Kind.Open = true
-is_open kind = false
+abbrev pub is_open_method : Kind → Bool
+is_open_method Kind.Open = true
+is_open_method kind = false
 
 abbrev pub is_close_ok : Kind → Bool
 is_close_ok Kind.CloseOk = true
@@ -297,10 +297,10 @@ is_close_ok kind = false
 -- What an end may put on a channel: a client's open where it is Free; after a close that it took, close-ok; all else
 -- where it is Open, but no open, and a server's replies in the order of the requests.
 abbrev pub may_put_here : Role → Channel → Reading → Bool
-may_put_here role Free reading = (is_client role && is_open (kind_of reading)) || is_close_ok (kind_of reading)
+may_put_here role Free reading = (is_client role && is_open_method (kind_of reading)) || is_close_ok (kind_of reading)
 may_put_here role Opening reading = false
 may_put_here role Closing reading = is_close_ok (kind_of reading)
-may_put_here role (Open life) reading = not (is_open (kind_of reading)) && answers_in_turn role life.requests reading
+may_put_here role (Open life) reading = not (is_open_method (kind_of reading)) && answers_in_turn role life.requests reading
 
 -- What a record says of the entries that it stands for.
 

@@ -44,7 +44,7 @@ abbrev pub waits : List Note → Bool
 waits history = since puts_close takes_close_ok history
 
 -- taken while the end waits, and neither close nor close-ok: such a note does not count
-abbrev pub is_dropped : Test
+abbrev is_dropped : Test
 is_dropped (Took Close frame) before = false
 is_dropped (Took CloseOk frame) before = false
 is_dropped (Took kind frame) before = waits before

@@ -21,7 +21,7 @@ pub data Verdict : Type 0 where
   Fault : (code : ℕ) → Verdict
 
 -- the codes that a frame can earn here: `amqp0-9-1.xml`, command-invalid and channel-error
-abbrev pub command_invalid : ℕ
+abbrev command_invalid : ℕ
 command_invalid = 503
 
 abbrev pub channel_error : ℕ

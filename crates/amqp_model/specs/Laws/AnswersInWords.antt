@@ -10,7 +10,7 @@ use Rattle.amqp_model.specs.History.Histories.{History, entries_on, payloads_tak
 use Rattle.amqp_model.specs.End.Channels.{Life, Open, Running, Closed, End}
 use Rattle.amqp_model.specs.History.Negotiation.{Config}
 use Rattle.amqp_model.specs.End.Asks.{channel_max}
-use Rattle.amqp_model.specs.End.Answers.{channel_state, gathered, reply_due}
+use Rattle.amqp_model.specs.End.Answers.{channel_state, octets_gathered, reply_due}
 use Rattle.amqp_model.specs.End.EndVerdict.{takes_octets}
 use Rattle.amqp_model.specs.End.Machine.{StandsFor}
 use Rattle.amqp_model.specs.Laws.EndLaws.{notes_on}
@@ -43,7 +43,7 @@ abbrev pub GatheredIsUnderWay : (role : Role) → Config role → End → Histor
 GatheredIsUnderWay role config end history n life since =
     StandsFor role config false end history → end.phase ≡ Running → end.channels (suc n) ≡ Open life
     → UnderWay (taken_on (suc n) history) since
-    → gathered end (suc n) ≡ length (body_octets since)
+    → octets_gathered end (suc n) ≡ length (body_octets since)
 
 -- The octets gathered are those of the body parts of the content under way.
 abbrev pub AllGatheredIsUnderWay : Type 0
@@ -55,7 +55,7 @@ AllGatheredIsUnderWay =
 abbrev pub NoneIsGathered : (role : Role) → Config role → End → History → (n : ℕ) → Life → Type 0
 NoneIsGathered role config end history n life =
     StandsFor role config false end history → end.phase ≡ Running → end.channels (suc n) ≡ Open life
-    → Gathers (taken_on (suc n) history) Nothing → gathered end (suc n) ≡ 0
+    → Gathers (taken_on (suc n) history) Nothing → octets_gathered end (suc n) ≡ 0
 
 -- Where no content is under way no octets are gathered.
 abbrev pub NothingIsGatheredOfNone : Type 0
@@ -67,7 +67,7 @@ NothingIsGatheredOfNone =
 abbrev pub OnlyOpenGathers : Type 0
 OnlyOpenGathers =
     (end : End) (n : ℕ)
-    → gathered end n ≢ 0 → (life : Life) × (end.phase ≡ Running) × (end.channels n ≡ Open life)
+    → octets_gathered end n ≢ 0 → (life : Life) × (end.phase ≡ Running) × (end.channels n ≡ Open life)
 
 -- a reply is due on an Open channel alone, while the connection is not closed
 abbrev pub OnlyOpenIsDue : Type 0

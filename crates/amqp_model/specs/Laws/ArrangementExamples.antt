@@ -6,7 +6,7 @@ use Rattle.amqp_model.specs.Output.Arrangement.{is_leaving, IsArranged, arranged
 use Rattle.amqp_model.specs.Output.Outputs.{Output, after_put, after_writing}
 
 -- basic.publish to the exchange "" with the routing key "q" (`amqp0-9-1.xml`, class 60, method 40)
-abbrev pub publish : (channel : ℕ) → Frame
+abbrev publish : (channel : ℕ) → Frame
 publish channel =
     record {
       kind = Method;
@@ -16,7 +16,7 @@ publish channel =
     }
 
 -- the header of a content of no properties, whose body has 256 a + b octets
-abbrev pub header : (channel a b : ℕ) → Frame
+abbrev header : (channel a b : ℕ) → Frame
 header channel a b =
     record {
       kind = Header;
@@ -25,11 +25,11 @@ header channel a b =
           ∷ b ∷ 0 ∷ 0 ∷ [];
     }
 
-abbrev pub body : (channel : ℕ) → List ℕ → Frame
+abbrev body : (channel : ℕ) → List ℕ → Frame
 body channel payload = record { kind = Body; channel = channel; payload = payload }
 
 -- tx.select (class 90, method 10)
-abbrev pub select : (channel : ℕ) → Frame
+abbrev select : (channel : ℕ) → Frame
 select channel = record { kind = Method; channel = channel; payload = 0 ∷ 90 ∷ 0 ∷ 10 ∷ [] }
 
 -- connection.close with the code 200 and the text "bye" (class 10, method 50)
@@ -43,11 +43,11 @@ close =
     }
 
 -- connection.close-ok (class 10, method 51)
-abbrev pub close_ok : Frame
+abbrev close_ok : Frame
 close_ok = record { kind = Method; channel = 0; payload = 0 ∷ 10 ∷ 0 ∷ 51 ∷ [] }
 
 -- connection.tune-ok for 2047 channels, frames of 131072 octets, and no heartbeat (class 10, method 31)
-abbrev pub tune_ok : Frame
+abbrev tune_ok : Frame
 tune_ok =
     record {
       kind = Method;
@@ -56,7 +56,7 @@ tune_ok =
           ∷ 0 ∷ 0 ∷ 0 ∷ [];
     }
 
-abbrev pub heartbeat : Frame
+abbrev heartbeat : Frame
 heartbeat = record { kind = Heartbeat; channel = 0; payload = [] }
 
 -- Only a method frame on channel 0 with one of two methods leaves the connection.
@@ -81,12 +81,12 @@ RoundTheTop =
 pub data Sized : Type 0 where
   OctetsOn : (size channel : ℕ) → Sized
 
-abbrev pub sizes : List Frame → List Sized
+abbrev sizes : List Frame → List Sized
 sizes frames = map (λ f. OctetsOn (frame_length f) f.channel) frames
 
 -- After channel 2: a content of 4089 octets on channel 1, in frames of at most 4096 octets, one of no octets on
 -- channel 2, and a close. The order in which they are put is not that in which they leave.
-abbrev pub long_and_short : (most rest : List ℕ) → List Frame
+abbrev long_and_short : (most rest : List ℕ) → List Frame
 long_and_short most rest =
     publish 1 ∷ header 1 15 249 ∷ body 1 most ∷ body 1 rest ∷ publish 2 ∷ header 2 0 0 ∷ close ∷ []
 
@@ -103,7 +103,7 @@ LongAndShort =
 
 -- After channel 2: a content of no octets on channel 1, five octets written, and tx.select on channel 2. The frame
 -- that is begun stays at the start.
-abbrev pub begun_and_put : Output
+abbrev begun_and_put : Output
 begun_and_put =
     after_put (select 2) (after_writing 5 (after_put (header 1 0 0)
     (after_put (publish 1) (record { ahead = []; begun_on = 2; last = 2; row = [] }))))

@@ -38,6 +38,10 @@ NotesAreOfFrames =
 abbrev pub OpeningsMeet : Role → Type 0
 OpeningsMeet role = opening_written (other_end role) ≡ opening_read role
 
+-- Each end begins to write with what the other begins to read.
+abbrev pub AllOpeningsMeet : Type 0
+AllOpeningsMeet = (role : Role) → OpeningsMeet role
+
 -- The octets that the other end put are those that were fed to this one, and then a rest.
 pub record Carries (role : Role) (limit : ℕ) (mine theirs : History)
     (put fed unfinished rest : List ℕ) : Type 0 where

@@ -68,6 +68,18 @@ abbrev pub CutsTo : (max body_length : ℕ) → List ℕ → Type 0
 CutsTo max body_length lengths =
     (content : Content) → length content.body ≡ body_length → body_lengths (cut max content) ≡ lengths
 
+-- In frames of 4096 octets a body of 4089 octets has two parts.
+abbrev pub OneMoreMakesTwoParts : Type 0
+OneMoreMakesTwoParts = CutsTo 4096 4089 (4088 ∷ 1 ∷ [])
+
+-- A body of 4088 octets is one part.
+abbrev pub FullBodyIsOnePart : Type 0
+FullBodyIsOnePart = CutsTo 4096 4088 (4088 ∷ [])
+
+-- A body of no octets has no part.
+abbrev pub NoBodyIsNoPart : Type 0
+NoBodyIsNoPart = CutsTo 4096 0 []
+
 -- payloads taken leave at most one content under way
 abbrev pub OneUnderWay : Type 0
 OneUnderWay =
@@ -139,6 +151,10 @@ TellsItems =
 -- the machine's items are those that the payloads encode
 abbrev pub ItemsAreEncoded : (taken : List Payload) → List Item → Type 0
 ItemsAreEncoded taken list = (items_taken taken ≡ list) ↔ Encodes taken list
+
+-- The items that the machine tells are those that the payloads encode.
+abbrev pub AllItemsAreEncoded : Type 0
+AllItemsAreEncoded = (taken : List Payload) (list : List Item) → ItemsAreEncoded taken list
 
 -- the items of a prefix are a prefix of the items
 abbrev pub ItemsOfPrefix : Type 0

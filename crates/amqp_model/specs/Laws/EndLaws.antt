@@ -19,7 +19,7 @@ use Rattle.amqp_model.specs.End.StateFromHistory.{channel_from, end_from}
 use Rattle.amqp_model.specs.End.FrameVerdict.{Facts, on_channel, awaits_in, verdict_on}
 use Rattle.amqp_model.specs.End.Closes.{reply_to}
 use Rattle.amqp_model.specs.End.Events.{Event, FrameVerdict, Proceeds, RefusesContent}
-use Rattle.amqp_model.specs.End.Answers.{channel_state, gathered, reply_due}
+use Rattle.amqp_model.specs.End.Answers.{channel_state, octets_gathered, reply_due}
 use Rattle.amqp_model.specs.End.Asks.{first_free, is_free, Ask, is_made, method_asked, Puts, ask_verdict}
 use Rattle.amqp_model.specs.End.EndVerdict.{end_verdict, goes_on, too_large_puts, takes_frames, takes_octets, CanTake}
 use Rattle.amqp_model.specs.End.Controls.{Control, control_verdict}
@@ -79,6 +79,10 @@ EveryRecordReads = (role : Role) (channel : Channel) (entries : List ChannelEntr
 abbrev pub ReadsState : Role → List ChannelEntry → Type 0
 ReadsState role entries = state_of (channel_from role entries) ≡ state role (notes entries)
 
+-- The state read off a channel's entries is the one that the lives of a channel count.
+abbrev pub EveryStateReads : Type 0
+EveryStateReads = (role : Role) (entries : List ChannelEntry) → ReadsState role entries
+
 -- the verdict of an end on a frame is the one that its history gives
 abbrev pub VerdictOfHistory : (role : Role) → Config role → (failed : Bool) → End → History → Frame → Type 0
 VerdictOfHistory role config failed end history frame =
@@ -104,7 +108,7 @@ EveryAskIsOfHistory =
     → AskOfHistory role config failed end history ask
 
 -- this is what the lives of a channel say of what is read there
-abbrev LivesSay : Role → Channel → Reading → lives.Verdict → Type 0
+abbrev pub LivesSay : Role → Channel → Reading → lives.Verdict → Type 0
 LivesSay role channel reading verdict =
     verdict_at role (state_of channel) (awaits_in channel) (kind_of reading) ≡ verdict
 
@@ -146,7 +150,7 @@ abbrev pub notes_on : (channel : ℕ) → History → List Note
 notes_on channel history = notes (entries_on channel history)
 
 -- an end goes on after it takes the frame
-abbrev GoesOnAfter : {role : Role} → Config role → End → Frame → Type 0
+abbrev pub GoesOnAfter : {role : Role} → Config role → End → Frame → Type 0
 GoesOnAfter config end frame = goes_on (end_verdict config end frame) ≡ true
 
 -- or finds fault with it
@@ -302,7 +306,7 @@ StepFollows =
 -- what an end answers of a channel is what its history gives
 pub record SameAnswers (end other : End) (number : ℕ) : Type 0 where
   pub state : channel_state end number ≡ channel_state other number
-  pub octets : gathered end number ≡ gathered other number
+  pub octets : octets_gathered end number ≡ octets_gathered other number
   pub request : reply_due end number ≡ reply_due other number
 
 abbrev pub AnswersOfHistory : (role : Role) → Config role → (failed : Bool) → End → History

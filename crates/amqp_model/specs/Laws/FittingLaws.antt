@@ -32,6 +32,10 @@ MethodReadsBack =
 abbrev pub HeaderReadsBack : Header → Type 0
 HeaderReadsBack header = HeaderFits header → header_at (plain_header header) ≡ Some header
 
+-- What is written of a content header that fits its fields reads as the header.
+abbrev pub EveryHeaderReadsBack : Type 0
+EveryHeaderReadsBack = (header : Header) → HeaderReadsBack header
+
 -- a configuration that has no fault fits its fields, where its numbers and its hello do
 abbrev pub FaultlessConfigFits : Type 0
 FaultlessConfigFits =
@@ -83,6 +87,10 @@ FramesSayPayloads =
 abbrev pub AllReadsBack : (role : Role) → Config role → Type 0
 AllReadsBack role config = ConfigWrites config → WritesReadBack role config
 
+-- All that an end writes of itself reads back, where its configuration can be written.
+abbrev pub EverythingReadsBack : Type 0
+EverythingReadsBack = (role : Role) (config : Config role) → AllReadsBack role config
+
 -- the frame of a server's start fits its fields
 abbrev pub StartFits : Type 0
 StartFits =
@@ -127,6 +135,10 @@ AllOwedAreShort = (role : Role) (facts : Facts role) (reading : Reading) → Owe
 -- the frame of the close that an end puts where a frame is above the limit has at most 4096 octets
 abbrev pub CloseIsShort : (role : Role) → Facts role → Type 0
 CloseIsShort role facts = AllWithin FRAME_MIN (map frame_of (methods_put facts (Faults (Peer FrameError))))
+
+-- The frame of the close that an end puts where a frame is above the limit has at most 4096 octets.
+abbrev pub EveryCloseIsShort : Type 0
+EveryCloseIsShort = (role : Role) (facts : Facts role) → CloseIsShort role facts
 
 -- the frames that an accepted ask puts are no longer than was agreed
 abbrev pub AskedAreWithin : Role → End → Ask → List Frame → Type 0

@@ -11,11 +11,12 @@ use Rattle.amqp_model.specs.History.Histories.{Put, Took, History}
 use Rattle.amqp_model.specs.End.Channels.{Closed, Agreed}
 use Rattle.amqp_model.specs.History.Negotiation.{Config, OfClient, OfServer, start, start_ok_choosing, tune, tune_ok}
 use Rattle.amqp_model.specs.History.Negotiation.{connection_open, connection_open_ok}
-use Rattle.amqp_model.specs.End.Closes.{method_frame, without_arguments, close_as}
+use Rattle.amqp_model.specs.End.Closes.{method_frame, close_as}
 use Rattle.amqp_model.specs.End.Controls.{heartbeat_frame}
 use Rattle.amqp_model.specs.End.LawfulHistories.{end_of}
 use Rattle.amqp_model.specs.End.Fitting.{ConfigFits}
 use Rattle.amqp_model.specs.Pair.Pairs.{Pair}
+use Rattle.amqp_model.specs.Laws.PairExample.{close_ok}
 
 -- the client wants a heartbeat of ten seconds, the server of a minute
 abbrev pub gated_client : Config Client
@@ -45,8 +46,8 @@ abbrev pub settled_by_gated : Agreed
 settled_by_gated = record { channel_max = 3; frame_max = 4096; heartbeat = 10 }
 
 -- the frame of a method on channel 0
-abbrev pub on_zero : Method → Frame
-on_zero method = method_frame 0 method
+abbrev pub frame_on_zero : Method → Frame
+frame_on_zero method = method_frame 0 method
 
 -- the client's answer to start
 abbrev pub chosen : Method
@@ -58,47 +59,44 @@ closing = close_as kinds.ConnectionClose 320 (codes "bye")
 abbrev pub refusing : Method
 refusing = close_as kinds.ConnectionClose 403 (codes "ACCESS_REFUSED")
 
-abbrev pub close_ok : Method
-close_ok = without_arguments kinds.ConnectionCloseOk
-
 -- what each of the two put and took, the newest first
-abbrev admitted_client : History
+abbrev pub admitted_client : History
 admitted_client =
-    Put (on_zero close_ok)
-    ∷ Took (on_zero closing)
+    Put (frame_on_zero close_ok)
+    ∷ Took (frame_on_zero closing)
     ∷ Took heartbeat_frame
     ∷ Put heartbeat_frame
-    ∷ Took (on_zero connection_open_ok)
-    ∷ Put (on_zero (connection_open gated_client))
-    ∷ Put (on_zero (tune_ok settled_by_gated))
-    ∷ Took (on_zero (tune gated_server))
-    ∷ Put (on_zero chosen)
-    ∷ Took (on_zero (start gated_server))
+    ∷ Took (frame_on_zero connection_open_ok)
+    ∷ Put (frame_on_zero (connection_open gated_client))
+    ∷ Put (frame_on_zero (tune_ok settled_by_gated))
+    ∷ Took (frame_on_zero (tune gated_server))
+    ∷ Put (frame_on_zero chosen)
+    ∷ Took (frame_on_zero (start gated_server))
     ∷ []
 
-abbrev admitting_server : History
+abbrev pub admitting_server : History
 admitting_server =
-    Took (on_zero close_ok)
+    Took (frame_on_zero close_ok)
     ∷ Took heartbeat_frame
-    ∷ Put (on_zero closing)
+    ∷ Put (frame_on_zero closing)
     ∷ Put heartbeat_frame
-    ∷ Put (on_zero connection_open_ok)
-    ∷ Took (on_zero (connection_open gated_client))
-    ∷ Took (on_zero (tune_ok settled_by_gated))
-    ∷ Put (on_zero (tune gated_server))
-    ∷ Took (on_zero chosen)
-    ∷ Put (on_zero (start gated_server))
+    ∷ Put (frame_on_zero connection_open_ok)
+    ∷ Took (frame_on_zero (connection_open gated_client))
+    ∷ Took (frame_on_zero (tune_ok settled_by_gated))
+    ∷ Put (frame_on_zero (tune gated_server))
+    ∷ Took (frame_on_zero chosen)
+    ∷ Put (frame_on_zero (start gated_server))
     ∷ []
 
-abbrev refused_client : History
+abbrev pub refused_client : History
 refused_client =
-    Put (on_zero close_ok) ∷ Took (on_zero refusing) ∷ Put (on_zero chosen)
-    ∷ Took (on_zero (start gated_server)) ∷ []
+    Put (frame_on_zero close_ok) ∷ Took (frame_on_zero refusing) ∷ Put (frame_on_zero chosen)
+    ∷ Took (frame_on_zero (start gated_server)) ∷ []
 
-abbrev refusing_server : History
+abbrev pub refusing_server : History
 refusing_server =
-    Took (on_zero close_ok) ∷ Put (on_zero refusing) ∷ Took (on_zero chosen)
-    ∷ Put (on_zero (start gated_server)) ∷ []
+    Took (frame_on_zero close_ok) ∷ Put (frame_on_zero refusing) ∷ Took (frame_on_zero chosen)
+    ∷ Put (frame_on_zero (start gated_server)) ∷ []
 
 -- Two ends come to these histories. Both are closed then; where the login was admitted they have agreed, and where it
 -- was refused they have not.

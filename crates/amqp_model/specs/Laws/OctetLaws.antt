@@ -22,7 +22,7 @@ use Rattle.amqp_model.specs.End.LawfulHistories.{Lawful, then_put, then_taken}
 use Rattle.amqp_model.specs.End.Machine.{StandsFor}
 use Rattle.amqp_model.specs.Stream.Octets.{frames_put, opening_written, has_opened, FedAs, FailedAt}
 use Rattle.amqp_model.specs.Stream.Endpoint.{Judgement, Begun, Whole, Wrong, judged, Endpoint, Feeding, Unfinished}
-use Rattle.amqp_model.specs.Stream.Endpoint.{Finished, Found, new_endpoint, awaits_opening, greeting, fault_told}
+use Rattle.amqp_model.specs.Stream.Endpoint.{Finished, Found, new_endpoint, awaits_opening, owed_at_start, fault_told}
 use Rattle.amqp_model.specs.Stream.Endpoint.{owed_at_fault, after_octet, after_feed, after_ask, after_wrote}
 
 -- a number of eight bits
@@ -220,7 +220,7 @@ pub data Follows (role : Role) (config : Config role) (old : Endpoint) (history 
       → Follows role config old history fed written piece new
   -- the protocol header is whole, and start is put
   greets : awaits_opening role old.end.phase ≡ true → history ≡ [] → new.outcome ≡ Finished (Some Quiet)
-      → StandsThen role config (then_put (map frame_of (greeting role config)) history) fed written piece new
+      → StandsThen role config (then_put (map frame_of (owed_at_start role config)) history) fed written piece new
       → Follows role config old history fed written piece new
   -- a frame is whole and taken, and the end goes on
   takes : (frame : Frame) → takes_frames old.end.phase ≡ true → CompletesFrame old piece new frame

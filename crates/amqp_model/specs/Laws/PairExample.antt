@@ -101,11 +101,11 @@ abbrev pub delivered : Content
 delivered = record { method = deliver; properties = no_properties; body = codes "xy" }
 
 -- the frames of a content after the first
-abbrev pub header_of : Content → Frame
-header_of content = payload_frame 1 (Header (length content.body) content.properties)
+abbrev pub header_frame : Content → Frame
+header_frame content = payload_frame 1 (Header (length content.body) content.properties)
 
-abbrev pub body_of : Content → Frame
-body_of content = payload_frame 1 (Body content.body)
+abbrev pub body_frame : Content → Frame
+body_frame content = payload_frame 1 (Body content.body)
 
 -- what each of the two put and took, the newest first
 abbrev pub client_history : History
@@ -122,11 +122,11 @@ client_history =
     ∷ Put (one select)
     ∷ Put (one (flow_as kinds.ChannelFlowOk false))
     ∷ Took (one (flow_as kinds.ChannelFlow false))
-    ∷ Took (body_of delivered)
-    ∷ Took (header_of delivered)
+    ∷ Took (body_frame delivered)
+    ∷ Took (header_frame delivered)
     ∷ Took (one delivered.method)
-    ∷ Put (body_of published)
-    ∷ Put (header_of published)
+    ∷ Put (body_frame published)
+    ∷ Put (header_frame published)
     ∷ Put (one published.method)
     ∷ Took (one channel_open_ok)
     ∷ Put (one channel_open)
@@ -152,11 +152,11 @@ server_history =
     ∷ Took (one select)
     ∷ Took (one (flow_as kinds.ChannelFlowOk false))
     ∷ Put (one (flow_as kinds.ChannelFlow false))
-    ∷ Put (body_of delivered)
-    ∷ Put (header_of delivered)
+    ∷ Put (body_frame delivered)
+    ∷ Put (header_frame delivered)
     ∷ Put (one delivered.method)
-    ∷ Took (body_of published)
-    ∷ Took (header_of published)
+    ∷ Took (body_frame published)
+    ∷ Took (header_frame published)
     ∷ Took (one published.method)
     ∷ Put (one channel_open_ok)
     ∷ Took (one channel_open)

@@ -16,7 +16,7 @@ use Rattle.amqp_model.specs.Pair.Pairs.{ComesNext, PairAt}
 use Rattle.amqp_model.specs.Pair.Sent.{items_in, items_sent, items_acted, life_on, told, said, items_of}
 
 -- a law of both ends of every pair of ends, on each channel above 0
-abbrev pub OnEachPair : (Role → (channel : ℕ) → (mine theirs : History) → Type 0) → Type 0
+abbrev OnEachPair : (Role → (channel : ℕ) → (mine theirs : History) → Type 0) → Type 0
 OnEachPair Law =
     (role : Role) (client_config : Config Client) (server_config : Config Server) (mine theirs : History) (n : ℕ)
     → PairAt role client_config server_config mine theirs → Law role (suc n) mine theirs
@@ -26,11 +26,19 @@ abbrev pub ActsOnPrefixOfItems : Role → (channel : ℕ) → (mine theirs : His
 ActsOnPrefixOfItems role channel mine theirs =
     (life : ℕ) → IsPrefixOf (items_acted role channel life mine) (items_sent (other_end role) channel life theirs)
 
+-- In each life, the items that an end acted on are a prefix of those that the other sent.
+abbrev pub EveryEndActsOnPrefixOfItems : Type 0
+EveryEndActsOnPrefixOfItems = OnEachPair ActsOnPrefixOfItems
+
 -- all the items that the other sent in a life that its close ended were acted on
 abbrev pub AllItemsActedOnAtClose : Role → (channel : ℕ) → (mine theirs : History) → Type 0
 AllItemsActedOnAtClose role channel mine theirs =
     (life : ℕ) → EndedByPeer role life (notes_on channel mine)
     → items_acted role channel life mine ≡ items_sent (other_end role) channel life theirs
+
+-- All items sent in a life that the other's close ended were acted on.
+abbrev pub AllItemsActedOnAtEveryClose : Type 0
+AllItemsActedOnAtEveryClose = OnEachPair AllItemsActedOnAtClose
 
 -- all the items that the other sent in the life of a live end were acted on, where the other's connection.close comes
 -- next
@@ -41,6 +49,10 @@ AllItemsActedOnAtConnectionClose role channel mine theirs =
     → ComesNext theirs mine frame → is_leaving frame ≡ true
     → items_acted role channel (life_on role channel mine) mine
     ≡ items_sent (other_end role) channel (life_on role channel mine) theirs
+
+-- All items sent in the life of a live end were acted on, where the other's connection.close comes next.
+abbrev pub AllItemsActedOnAtEveryConnectionClose : Type 0
+AllItemsActedOnAtEveryConnectionClose = OnEachPair AllItemsActedOnAtConnectionClose
 
 -- the end took the other's connection.close in this life of the channel, before it put a close of the channel or the
 -- connection
@@ -59,6 +71,10 @@ AllItemsActedOnOfEnded role channel mine theirs =
     (life : ℕ) → EndedByConnectionClose role channel life mine
     → items_acted role channel life mine ≡ items_sent (other_end role) channel life theirs
 
+-- All items sent in a life that the other's connection.close ended were acted on.
+abbrev pub AllItemsActedOnOfEveryEnded : Type 0
+AllItemsActedOnOfEveryEnded = OnEachPair AllItemsActedOnOfEnded
+
 -- the items that the other sent in the life of a live end are those that the frames acted on and then the messages on
 -- their way encode, read one after the other
 abbrev pub ItemsSentAreActedOnOrInFlight : Role → (channel : ℕ) → (mine theirs : History) → Type 0
@@ -69,10 +85,19 @@ ItemsSentAreActedOnOrInFlight role channel mine theirs =
     → items_sent (other_end role) channel (life_on role channel mine) theirs
     ≡ items_in (acted role (life_on role channel mine) (notes_on channel mine) ++ message_frames rest)
 
+-- The items sent in the life of a live end are those that the frames acted on, and then the messages in flight,
+-- encode.
+abbrev pub AllItemsSentAreActedOnOrInFlight : Type 0
+AllItemsSentAreActedOnOrInFlight = OnEachPair ItemsSentAreActedOnOrInFlight
+
 -- the end sent nothing, and acted on nothing, before the first life of a channel
 abbrev pub NoItemsBeforeFirstLife : Role → (channel : ℕ) → History → Type 0
 NoItemsBeforeFirstLife role channel history =
     (items_sent role channel 0 history ≡ []) × (items_acted role channel 0 history ≡ [])
+
+-- An end sent nothing, and acted on nothing, before the first life of a channel.
+abbrev pub NoItemsBeforeAnyFirstLife : Type 0
+NoItemsBeforeAnyFirstLife = OnEachPair (λ role channel mine theirs. NoItemsBeforeFirstLife role channel mine)
 
 -- the items that an end that has not failed told of a channel and a life are those that it acted on in it
 abbrev pub TellsWhatIsActedOn : (role : Role) → Config role → (channel : ℕ) → History → Type 0

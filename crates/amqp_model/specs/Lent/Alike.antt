@@ -46,7 +46,7 @@ pub data EventTelling : Type 0 where
   Tells : Event → EventTelling
   TellsWhole : (channel : ℕ) → EventTelling
 
-abbrev pub telling : Event → EventTelling
+abbrev telling : Event → EventTelling
 telling (Told channel (Whole content)) = TellsWhole channel
 telling event = Tells event
 

@@ -29,8 +29,8 @@ taken_by (_ ∷ before) = taken_by before
 pub data NoteInLife : Type 0 where
   At : Kind → (life : ℕ) → Frame → NoteInLife
 
-abbrev pub life_of : NoteInLife → ℕ
-life_of (At kind life frame) = life
+abbrev pub life_noted : NoteInLife → ℕ
+life_noted (At kind life frame) = life
 
 -- the notes put, each with its life
 abbrev pub puts : Role → List Note → List NoteInLife
@@ -46,13 +46,13 @@ takes role (Took kind frame ∷ before) =
     takes role before ++ At kind (lives role (Took kind frame ∷ before)) frame ∷ []
 takes role (_ ∷ before) = takes role before
 
-abbrev pub is_open : State → Bool
-is_open State.Open = true
-is_open _ = false
+abbrev pub state_is_open : State → Bool
+state_is_open State.Open = true
+state_is_open _ = false
 
 -- what the end takes next it acts on: the channel is Open, and it has not put connection.close
 abbrev pub acts_next : Role → List Note → Bool
-acts_next role history = not (has_left history) && is_open (state role history)
+acts_next role history = not (has_left history) && state_is_open (state role history)
 
 -- The notes that the end took while it acted on what it takes, each with its life. A frame that it finds fault with,
 -- after which nothing comes, is one of them: in a run there is none.

@@ -66,3 +66,7 @@ overtaken_client f = PutOn 2 Open (f 2) ∷ PutOn 1 Open (f 1) ∷ []
 abbrev pub overtaking_server : (ℕ → Frame) → List ConnectionNote
 overtaking_server f =
     PutOn 1 OpenOk (f 1) ∷ TookOn 1 Open (f 1) ∷ PutOn 2 OpenOk (f 2) ∷ TookOn 2 Open (f 2) ∷ []
+
+-- Whatever the frames, that is a run of a connection.
+abbrev pub EveryOvertakingRuns : Type 0
+EveryOvertakingRuns = (f : ℕ → Frame) → ConnectionRun (overtaken_client f) (overtaking_server f)

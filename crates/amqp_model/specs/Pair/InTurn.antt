@@ -9,7 +9,7 @@ use Rattle.amqp_model.specs.Wire.Items.{Item, PlainMethod, WholeContent}
 use Rattle.amqp_model.specs.History.Histories.{History}
 use Rattle.amqp_model.specs.End.Channels.{Life, Open, End}
 use Rattle.amqp_model.specs.History.Negotiation.{Config}
-use Rattle.amqp_model.specs.End.Answers.{first_of, reply_due}
+use Rattle.amqp_model.specs.End.Answers.{first_request, reply_due}
 use Rattle.amqp_model.specs.End.EndVerdict.{takes_octets}
 use Rattle.amqp_model.specs.End.ReadingBack.{WritesReadBack}
 use Rattle.amqp_model.specs.End.LawfulHistories.{Lawful}
@@ -93,7 +93,7 @@ abbrev pub DueIsFirst : (role : Role) → Config role → End → History → (n
 DueIsFirst role config end history n life =
     WritesReadBack role config → Lawful role config false history → StandsFor role config false end history
     → end.channels (suc n) ≡ Open life → takes_octets end.phase ≡ true
-    → reply_due end (suc n) ≡ first_of (unanswered_at role (suc n) (life_here role (suc n) history) history)
+    → reply_due end (suc n) ≡ first_request (unanswered_at role (suc n) (life_here role (suc n) history) history)
 
 -- The reply that is due is to the first request without one.
 abbrev pub EveryDueIsFirst : Type 0

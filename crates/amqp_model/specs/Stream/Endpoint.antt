@@ -80,8 +80,8 @@ unless_over endpoint (Some fault) feeding = record { endpoint = endpoint; taken 
 unless_over endpoint None feeding = feeding
 
 -- an octet is taken, and nothing is whole yet
-abbrev pub goes_on_with : Endpoint → (octets : List ℕ) → Feeding
-goes_on_with endpoint octets =
+abbrev pub holds_octets : Endpoint → (octets : List ℕ) → Feeding
+holds_octets endpoint octets =
     record {
       endpoint = record { end = endpoint.end; unfinished = octets; output = endpoint.output };
       taken = 1;
@@ -103,16 +103,16 @@ awaits_opening Server (Handshake AwaitsProtocolHeader) = true
 awaits_opening role phase = false
 
 -- what an end puts once it has read that: a server puts start
-abbrev pub greeting : (role : Role) → Config role → List Owed
-greeting Client config = []
-greeting Server config = on_zero (start config) ∷ []
+abbrev pub owed_at_start : (role : Role) → Config role → List Owed
+owed_at_start Client config = []
+owed_at_start Server config = on_zero (start config) ∷ []
 
 -- octets of the protocol header: at one that differs the end has that header to write, and fails
 abbrev pub after_opening : (role : Role) → Config role → Endpoint → (octets : List ℕ) → Comparison → Feeding
-after_opening role config endpoint octets Prefix = goes_on_with endpoint octets
+after_opening role config endpoint octets Prefix = holds_octets endpoint octets
 after_opening role config endpoint octets Same =
-    comes_to endpoint (end_after_owed role config (greeting role config) endpoint.end)
-    (map frame_of (greeting role config))
+    comes_to endpoint (end_after_owed role config (owed_at_start role config) endpoint.end)
+    (map frame_of (owed_at_start role config))
     (Finished (Some Quiet))
 after_opening role config endpoint octets Differs =
     record {
@@ -141,7 +141,7 @@ owed_at_fault config end kind = methods_put (facts_at config end 0) (Faults (fau
 
 -- octets of a frame
 abbrev pub after_judged : (role : Role) → Config role → Endpoint → (octets : List ℕ) → Judgement → Feeding
-after_judged role config endpoint octets Begun = goes_on_with endpoint octets
+after_judged role config endpoint octets Begun = holds_octets endpoint octets
 after_judged role config endpoint octets (Whole frame) =
     comes_to endpoint (end_after_taken role config endpoint.end (reading frame) frame)
     (end_puts config endpoint.end frame)

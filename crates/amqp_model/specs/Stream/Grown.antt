@@ -3,7 +3,7 @@ use Rattle.std.specs.Prelude.{◌≡◌, true, ℕ, List, [], map, Some}
 use Rattle.amqp_frame.specs.declared.faults.FrameFaultKind.{FrameFaultKind}
 use Rattle.amqp_model.specs.End.Closes.{frame_of}
 use Rattle.amqp_model.specs.Stream.Endpoint.{Endpoint, Feeding, Unfinished, Finished, Found, awaits_opening, fault_told}
-use Rattle.amqp_model.specs.Stream.Endpoint.{greeting, owed_at_fault, refusal_in}
+use Rattle.amqp_model.specs.Stream.Endpoint.{owed_at_start, owed_at_fault, refusal_in}
 use Rattle.amqp_model.specs.End.EndVerdict.{end_verdict, goes_on, takes_frames}
 use Rattle.amqp_model.specs.End.Events.{Quiet, Fault, Faults, WrongProtocolHeader}
 use Rattle.amqp_model.specs.Wire.Frame.{Frame}
@@ -19,7 +19,7 @@ pub data Grows (role : Role) (config : Config role) (old : Endpoint) (piece : Li
     (history : History) : (after : History) → Type 0 where
   waits : fed.outcome ≡ Unfinished → Grows role config old piece fed history history
   greets : awaits_opening role old.end.phase ≡ true → history ≡ [] → fed.outcome ≡ Finished (Some Quiet)
-      → Grows role config old piece fed history (then_put (map frame_of (greeting role config)) history)
+      → Grows role config old piece fed history (then_put (map frame_of (owed_at_start role config)) history)
   takes : (frame : Frame) → takes_frames old.end.phase ≡ true → CompletesFrame old piece fed frame
       → goes_on (end_verdict config old.end frame) ≡ true
       → fed.outcome ≡ Finished (event_of_frame config old.end frame)

@@ -18,7 +18,7 @@ use Rattle.amqp_model.specs.End.ReadingBack.{AskReadsBack}
 use Rattle.amqp_model.specs.End.EndVerdict.{takes_octets}
 use Rattle.amqp_model.specs.Stream.Octets.{opening_read}
 use Rattle.amqp_model.specs.Stream.Endpoint.{Whole, Wrong, Same, Differs, Endpoint, Feeding, new_endpoint}
-use Rattle.amqp_model.specs.Stream.Endpoint.{awaits_opening, goes_on_with, after_opening, after_judged, after_feed}
+use Rattle.amqp_model.specs.Stream.Endpoint.{awaits_opening, holds_octets, after_opening, after_judged, after_feed}
 use Rattle.amqp_model.specs.Stream.Endpoint.{after_ask, after_wrote}
 use Rattle.amqp_model.specs.Laws.OctetLaws.{IsOctet, EndpointStandsFor}
 
@@ -125,7 +125,7 @@ abbrev pub FeedWaits : (role : Role) → Config role → Endpoint → Stream →
 FeedWaits role config endpoint stream piece taken =
     IsFedBy role endpoint stream piece → Waits stream piece taken
     → after_feed role config endpoint piece
-    ≡ with_taken taken (goes_on_with endpoint (endpoint.unfinished ++ piece))
+    ≡ with_taken taken (holds_octets endpoint (endpoint.unfinished ++ piece))
 
 -- Where the unfinished octets and a piece are no whole frame and show no fault, nothing comes of the piece.
 abbrev pub EveryFeedWaits : Type 0
@@ -166,7 +166,7 @@ FeedBeginsOpening role config endpoint piece =
     awaits_opening role endpoint.end.phase ≡ true
     → IsProperPrefixOf (endpoint.unfinished ++ piece) (opening_read role)
     → after_feed role config endpoint piece ≡ with_taken (length piece)
-    (goes_on_with endpoint (endpoint.unfinished ++ piece))
+    (holds_octets endpoint (endpoint.unfinished ++ piece))
 
 -- A piece that begins the rest of the protocol header is taken whole.
 abbrev pub EveryFeedBeginsOpening : Type 0

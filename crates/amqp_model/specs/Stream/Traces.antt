@@ -93,6 +93,10 @@ trace (Took frame ∷ before) = trace before ++ noted IsTaken frame ∷ []
 abbrev pub TracePuts : List Frame → History → Type 0
 TracePuts frames history = trace (then_put frames history) ≡ trace history ++ map (noted IsPut) frames
 
+-- Frames that are put are noted last, each once.
+abbrev pub AllPutsAreNoted : Type 0
+AllPutsAreNoted = (frames : List Frame) (history : History) → TracePuts frames history
+
 -- a frame that is taken is noted, and then those that it makes the end put
 abbrev pub TraceTakes : Type 0
 TraceTakes =

@@ -154,7 +154,7 @@ pub(crate) trait AnyEnd {
 
     /// How many octets have come of the body of a content that isn't whole yet.
     fn came(&self, channel: u16) -> usize
-        ensures { result ≡ answers.gathered (endpoint self.now).end channel };
+        ensures { result ≡ answers.octets_gathered (endpoint self.now).end channel };
 
     fn channel_state(&self, channel: u16) -> ChannelState
         ensures { state_view result ≡ answers.channel_state (endpoint self.now).end channel };

@@ -1,5 +1,5 @@
 -- The slices are the start of what waits.
-use Rattle.std.proofs.Common.{List, [], ◌++◌, subst}
+use Rattle.std.proofs.Common.{[], ◌++◌, subst}
 use Rattle.std.specs.Io.Slices.{io_slice_bytes}
 use Rattle.amqp_model.specs.Output.Outputs.{output_octets}
 use Rattle.amqp_io.proofs.VectoredLemmas.{Starts, appended_of_row, four_start, marks_of_row}

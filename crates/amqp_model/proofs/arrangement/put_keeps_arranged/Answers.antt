@@ -7,23 +7,16 @@ use Rattle.amqp_model.proofs.Departing.{placed-leaves}
 use Rattle.amqp_model.proofs.LeavingLast.{on-above}
 use Rattle.amqp_model.proofs.arrangement.put_keeps_arranged.Goals as goal
 
-pub returns-clause-arranged : goal.returns-clause-arranged
-returns-clause-arranged c = placed-arranges
-
-pub returns-clause-others : goal.returns-clause-others
-returns-clause-others c = placed-gains
-
-pub returns-clause-channels : goal.returns-clause-channels
-returns-clause-channels c = λ last f row channel arranged h. on-above channel (placed last f row) h
-    ∙ (gains-queued f row (placed last f row) (placed-gains last f row arranged) (FramesOn channel)
-    ∙ (sym (on-above channel (row ++ f ∷ []) h)
-    ∙ filter-append (λ g. g.channel == channel) row (f ∷ [])))
-
-pub returns-clause-leaving : goal.returns-clause-leaving
-returns-clause-leaving c = placed-leaves
-
-pub returns-clause-place : goal.returns-clause-place
-returns-clause-place c = placed-after-queue
-
-pub returns-clause-begun : goal.returns-clause-begun
-returns-clause-begun c = λ f o. (refl, refl)
+pub returns : goal.returns
+returns c =
+    record {
+      arranged = placed-arranges;
+      others = placed-gains;
+      channels = λ last f row channel arranged h. on-above channel (placed last f row) h
+          ∙ (gains-queued f row (placed last f row) (placed-gains last f row arranged) (FramesOn channel)
+          ∙ (sym (on-above channel (row ++ f ∷ []) h)
+          ∙ filter-append (λ g. g.channel == channel) row (f ∷ [])));
+      leaving = placed-leaves;
+      place = placed-after-queue;
+      begun = λ f o. (refl, refl);
+    }

@@ -1,5 +1,5 @@
 -- The part of the output that is to be written, and how far it was written.
-use Rattle.std.proofs.Common.{◌≡◌, ◌<◌, length, take, arith, refl}
+use Rattle.std.proofs.Common.{◌≡◌, ◌<◌, length, take, arith}
 use Rattle.amqp_core.specs.Stream.View.{endpoint_of}
 use Rattle.amqp_io.specs.Sessions.{due}
 use Rattle.amqp_io.proofs.TurnLemmas.{length_due, marks_failure, marks_none, moves, none_due}
