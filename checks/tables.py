@@ -278,9 +278,13 @@ def refusals():
     specs = text_of("crates/amqp_model/specs/End/Asks.antt")
     found = [(number, name) for name, number in re.findall(r"^refusal_number (\w+) = (\d+)$", specs, re.M)]
     compare("refusals", documented("| Number | Refusal |", 11), found, "the definition")
-    specs = text_of("crates/amqp_model/specs/End/Fitting.antt")
-    found = [(number, name) for name, number in re.findall(r"^config_fault_number (\w+) = (\d+)$", specs, re.M)]
-    compare("configuration faults", documented("| Number | Fault |", 3), found, "the definition")
+    rows = documented("| Number | Fault |", 4)
+    specs = text_of("crates/amqp_core/specs/Faults/Numbers.antt")
+    found = [(number, name) for name, number in re.findall(r"^config_fault_number config\.(\w+) = (\d+)$", specs, re.M)]
+    compare("configuration faults", rows, found, "the definition")
+    enum = text_of("crates/amqp_core/src/faults.rt").split("pub enum ConfigFault {")[1].split("\n}")[0]
+    found = [(number, name) for name, number in re.findall(r"^    (\w+) = (\d+),$", enum, re.M)]
+    compare("configuration faults", rows, found, "the code")
 
 
 def closes():
