@@ -1,9 +1,10 @@
 -- Channels whose contents are lent: what a frame leaves is alike to what it leaves where contents are gathered.
-use Rattle.std.proofs.Common.{◌≡◌, ℕ, List, refl, ap, sym, ◌∙◌}
+use Rattle.std.proofs.Common.{◌≡◌, ℕ, ◌+◌, ◌<◌, List, length, refl, ap, sym, ◌∙◌}
 use Rattle.std.proofs.lemmas.List.{length-replicate, length-append}
 use Rattle.amqp_model.specs.End.Channels.{Life, Channel, Free, Opening, Closing, Open}
 use Rattle.amqp_model.specs.Lent.Alike.{AlikeChannels}
 use Rattle.amqp_model.specs.Lent.Streaming.{Streaming, NoContent, AwaitsHeader, AwaitsBody, gathered_as, streamed}
+use Rattle.amqp_model.specs.Wire.Methods.{MethodKind}
 use Rattle.amqp_model.specs.Wire.Gathering.{Gathering, Nothing, HeaderDue, BodyDue}
 use Rattle.amqp_model.specs.Wire.Notes.{Role, Client, Server}
 use Rattle.amqp_model.specs.Wire.Readings.{Reading, Calls, HeaderOf, BodyOf}
@@ -18,6 +19,19 @@ pub as_known : (progress : Streaming) → streamed (gathered_as progress) ≡ pr
 as_known NoContent = refl
 as_known (AwaitsHeader kind) = refl
 as_known (AwaitsBody kind size came) = ap (AwaitsBody kind size) (length-replicate came 0)
+
+-- of a body that is known only so far, more than the next part is due
+pub came_fits : (kind : MethodKind) (size came : ℕ) (octets : List ℕ)
+    → FitsProgress (BodyOf octets) told.Continued (streamed (gathered_as (AwaitsBody kind size came)))
+    → came + length octets < size
+came_fits kind size came octets fits = rw (length-replicate {A = ℕ} came 0) at fits
+
+-- the content of a channel that is lent, after a frame, as it is known
+pub known_so_far : (reading : Reading) (said : Told) (progress : Streaming)
+    → gathered_as (progress_with reading said (streamed (gathered_as progress)))
+    ≡ gathered_as (progress_with reading said progress)
+known_so_far reading said progress =
+    ap (λ (known : Streaming). gathered_as (progress_with reading said known)) (as_known progress)
 
 -- the content after a frame
 told_content : (role : Role) (reading : Reading) (said : Told) (life : Life)
@@ -144,3 +158,30 @@ pub progress_fits : (channel : Channel) (reading : Reading) (said : Told) (progr
     → progress ≡ streamed (content_on channel) → FitsTold channel reading said → FitsProgress reading said progress
 progress_fits channel (BodyOf octets) told.Continued progress known fits = rw known (body_fits octets channel fits)
 progress_fits channel reading said progress known fits = tt
+
+-- what stands beside the content is no part of it
+stands_content : (role : Role) (reading : Reading) (said : Told) (before : Channel)
+    → content_on (stands_on role reading said before) ≡ content_on before
+stands_content role reading said Free = refl
+stands_content role reading said Opening = refl
+stands_content role reading said Closing = refl
+stands_content role reading said (Open life) = refl
+
+pub standing_fits : (role : Role) (reading : Reading) (said : Told) (before standing : Channel)
+    → standing ≡ stands_on role reading said before → FitsTold before reading said
+    → FitsProgress reading said (streamed (content_on standing))
+standing_fits role reading said before standing stands fits =
+    progress_fits before reading said (streamed (content_on standing))
+    (ap (λ (channel : Channel). streamed (content_on channel)) stands ∙ ap streamed (stands_content role reading said before))
+    fits
+
+-- the channel is alike, if first what stands beside the content changes, and then the content
+pub advanced_alike : (role : Role) (reading : Reading) (said : Told) (before standing after : Channel)
+    → standing ≡ stands_on role reading said before
+    → after ≡ known_on (progress_with reading said (streamed (content_on standing))) standing
+    → AlikeChannels (goes_on role reading said before) after
+advanced_alike role reading said before standing after stands known =
+    lent_alike role reading said before standing after (progress_with reading said (streamed (content_on standing)))
+    (ap (λ (channel : Channel). progress_with reading said (streamed (content_on channel))) stands
+    ∙ ap (λ (content : Gathering). progress_with reading said (streamed content)) (stands_content role reading said before))
+    stands known

@@ -61,6 +61,9 @@ impl Amounts {
         requires { IsPartOf self before }
         ensures { ChangesBy before left self result }
     {
+        if before.header == left.header && before.body == left.body {
+            return self;
+        }
         Amounts {
             headers: changed(self.headers, before.header, left.header),
             bodies: changed(self.bodies, before.body, left.body),

@@ -51,17 +51,17 @@ pub struct Advanced<'a> {
 pub struct Splitter {
     alloc: Global,
     limit: u32,
+    /// what the buffer's octets are
+    held: Held,
+    /// how many frames in a row needed no buffer while it had more room than is kept
+    unused: u8,
     /// how many octets of the stream were taken, up to the greatest number
     taken: u64,
     /// the place of the first fault
     fault: Option<u64>,
     /// how many octets of its piece were taken up to the octet that showed it
     taken_to_fault: usize,
-    /// what the buffer's octets are
-    held: Held,
     buffer: Vec<u8>,
-    /// how many frames in a row needed no buffer while it had more room than is kept
-    unused: u8,
 }
 
 impl Model for Splitter {
@@ -90,12 +90,12 @@ impl Splitter {
         Splitter {
             alloc,
             limit,
+            held: Held::Begun,
+            unused: 0,
             taken: 0,
             fault: None,
             taken_to_fault: 0,
-            held: Held::Begun,
             buffer: Vec::new(alloc),
-            unused: 0,
         }
     }
 
@@ -162,7 +162,9 @@ impl Splitter {
                 Judgement::Begun => {}
             }
         }
-        self.advance_buffer(piece)
+        // Bound first, so that it has a place of its own in memory: what is answered in place stays in registers.
+        let advanced = self.advance_buffer(piece);
+        advanced
     }
 
     /// The same by way of the buffer, where no whole frame lies in the piece. It stands apart so that the path above,

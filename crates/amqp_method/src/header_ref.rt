@@ -17,9 +17,9 @@ use amqp_value::TableRef;
 /// properties.
 #[derive(Clone, Copy)]
 pub struct HeaderRef<'a> {
-    body_size: u64,
-    pub(crate) flags: u16,
     payload: &'a [u8],
+    pub(crate) flags: u16,
+    body_size: u64,
     ghost below: { AreBelow256 payload.now },
     ghost flagged: { flags ≡ big_number 2 (drop 12 payload.now) },
     pub ghost reads: { size_read (header_at payload.now) ≡ Ok body_size },

@@ -19,8 +19,8 @@ const IDS_LENGTH: usize = 4;
 /// arguments.
 #[derive(Clone, Copy)]
 pub struct MethodRef<'a> {
-    kind: Kind,
     payload: &'a [u8],
+    kind: Kind,
     ghost below: { AreBelow256 payload.now },
     pub ghost reads: { kind_read (method_at payload.now) ≡ Ok kind },
 }

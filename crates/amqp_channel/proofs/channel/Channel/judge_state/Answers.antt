@@ -16,11 +16,11 @@ pub returns-in-LentHeader : goal.returns-in-LentHeader
 returns-in-LentHeader c =
     let life = life_on (gathered_as (AwaitsHeader c.in-LentHeader.field-0)) c.in-LentHeader.field-1 in
     rw c.in-LentHeader.is
-    (state_rules c.args.site (Open life) (lent_call c.args.method) c.judge_inside.result c.requires.sent tt (c.judge_inside.ensures life refl))
+    (state_rules c.args.site (Open life) (lent_call c.args.method) c.judge_inside-verdict.result c.requires.sent tt (c.judge_inside-verdict.ensures life refl))
 
 pub returns-in-LentBody : goal.returns-in-LentBody
 returns-in-LentBody c =
     let lent = c.in-LentBody in
     let life = life_on (gathered_as (AwaitsBody lent.kind lent.size lent.came)) lent.standing in
     rw lent.is
-    (state_rules c.args.site (Open life) (lent_call c.args.method) c.judge_inside-in-LentBody.result c.requires.sent tt (c.judge_inside-in-LentBody.ensures life refl))
+    (state_rules c.args.site (Open life) (lent_call c.args.method) c.judge_inside-verdict-in-LentBody.result c.requires.sent tt (c.judge_inside-verdict-in-LentBody.ensures life refl))

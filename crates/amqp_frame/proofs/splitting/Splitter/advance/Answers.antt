@@ -4,8 +4,8 @@ use Rattle.amqp_frame.proofs.SplitterLemmas.{begun_without_frame, told_without_f
 use Rattle.amqp_frame.proofs.splitting.Splitter.advance.Goals as goal
 use Rattle.amqp_frame.proofs.splitting.Splitter.advance.Goals.{then-is_between_frames+in-Wrong, then-is_between_frames+in-Begun, else-is_between_frames}
 
-pub advance_buffer-requires : goal.advance_buffer-requires
-advance_buffer-requires c = λ none empty here. elim c.if-is_between_frames.branch [
+pub advance_buffer-advanced-requires : goal.advance_buffer-advanced-requires
+advance_buffer-advanced-requires c = λ none empty here. elim c.if-is_between_frames.branch [
   | then-is_between_frames+in-Wrong w ↦
       told_without_frame _ c.args.piece.now w.in-Wrong.field-0 w.in-Wrong.field-1 w.in-Wrong.ensures.is (rw (← c.self.view_is) at here)
   | then-is_between_frames+in-Begun w ↦ begun_without_frame _ c.args.piece.now w.in-Begun.ensures.is (rw (← c.self.view_is) at here)
