@@ -3,7 +3,7 @@ use Rattle.std.proofs.Common.{◌≡◌, ◌+◌, ◌-◌, ◌<◌, ◌≤◌, �
 use Rattle.std.proofs.lemmas.List.{take-append-le, drop_all, drop-append-le, drop-drop, take-take, drop-take}
 use Rattle.std.specs.Prelude.{Vec}
 use Rattle.std.specs.declared.alloc.Global.{Global}
-use Rattle.amqp_outbox.specs.Chunks.{joined, left_of}
+use Rattle.amqp_outbox.specs.Chunks.{joined, joined_after}
 
 -- a chunk after the others
 joined-push : (later : List (Vec ℕ Global)) (chunk : Vec ℕ Global) → joined (later ++ chunk ∷ []) ≡ joined later ++ chunk.items
@@ -11,12 +11,12 @@ joined-push [] chunk = append-nil chunk.items
 joined-push (next ∷ later) chunk = ap (λ l. next.items ++ l) (joined-push later chunk) ∙ sym (append_assoc next.items (joined later) chunk.items)
 
 pub left-push : (taken : ℕ) (first : List ℕ) (later : List (Vec ℕ Global)) (chunk : Vec ℕ Global)
-    → left_of taken first (later ++ chunk ∷ []) ≡ left_of taken first later ++ chunk.items
+    → joined_after taken first (later ++ chunk ∷ []) ≡ joined_after taken first later ++ chunk.items
 left-push taken first later chunk =
     ap (λ l. drop taken first ++ l) (joined-push later chunk) ∙ sym (append_assoc (drop taken first) (joined later) chunk.items)
 
 -- nothing is left of a first chunk of which all is taken
-pub used_up : (taken : ℕ) (first : List ℕ) (later : List (Vec ℕ Global)) → taken ≡ length first → left_of taken first later ≡ joined later
+pub used_up : (taken : ℕ) (first : List ℕ) (later : List (Vec ℕ Global)) → taken ≡ length first → joined_after taken first later ≡ joined later
 used_up taken first later all = ap (λ l. l ++ joined later) (drop_all taken first (omega arith))
 
 pub some_later : (later : List (Vec ℕ Global)) → 0 < length (joined later) → 0 < length later

@@ -1,5 +1,5 @@
 -- The place of a frame and its lap, after the last frame of its channel.
-use Rattle.std.proofs.Common.{◌≡◌, ℕ, zero, suc, ◌+◌, ◌-◌, ◌^◌, ◌<◌, ◌≤◌, min, Bool, true, false, cond, ◌==◌, nat_lt, inl, inr, List, [], ◌∷◌, ◌++◌, length, map, take, drop, All, get_or, refl, sym, ap, ap₂, ◌∙◌, subst, arith, append_assoc, take-append-drop, ne_eqb, le-ltb, eqb-true}
+use Rattle.std.proofs.Common.{◌≡◌, ℕ, zero, suc, ◌+◌, ◌-◌, ◌<◌, ◌≤◌, Bool, true, false, cond, ◌==◌, nat_lt, inl, inr, List, [], ◌∷◌, ◌++◌, length, map, take, drop, All, get_or, refl, sym, ap, ap₂, ◌∙◌, subst, arith, append_assoc, take-append-drop, ne_eqb, le-ltb, eqb-true}
 use Rattle.std.proofs.lemmas.Bool.{cond-false, and_parts}
 use Rattle.std.proofs.lemmas.List.{get_or_default, get_or-drop, get_or_at, take-map, drop-map, length-take-le, length-append, get_or-take}
 use Rattle.std.proofs.lemmas.List.Elements.{All-head, All-tail, All-take, All-drop}
@@ -71,6 +71,7 @@ counted-rest now w next n f rest above fc l arranged channels next_is counted ow
     let laps = laps-in at next now w f rest above fc l arranged channels refl at_is own2 in
     (count ∙ sym turns, subst (Takes at next now w f rest) (sym count) laps)
 
+-- the channel's own frames were all passed
 pub counted-on : (slots : List Slot) (laps : List ℕ) (slot : Slot) (lap last own next n : ℕ) → 0 < slot.channel → slot.channel < 65536 → last < 65536 → laps ≡ laps_of lap last slots
     → next ≡ lap_after (laps_last lap last (take own slots)) (slots_last last (take own slots)) slot
     → (AreInOrder (moment next slot.channel) (drop own slots) (drop own laps) → n ≡ count_until (moment next slot.channel) (drop own slots) (drop own laps))
@@ -184,16 +185,6 @@ lap-on_leaving lap last n slot slots t f row e g arranged channels =
     let leaves : is_leaving f ≡ true = ap (λ (s : Slot). s.leaving) e ∙ t in
     let z = eqb-true f.channel 0 (and_parts (f.channel == 0) _ leaves).0 in
     lap-on_zero lap last n slot slots (sym (ap (λ (s : Slot). s.channel) e) ∙ z) f row e g arranged channels
-
--- the channel's own frames were all passed
-pub counted-last : (slots : List Slot) (laps : List ℕ) (slot : Slot) (lap last own next target ahead n : ℕ) → 0 < slot.channel → slot.channel < 65536 → last < 65536 → laps ≡ laps_of lap last slots
-    → next ≡ lap_after (laps_last lap last (take own slots)) (slots_last last (take own slots)) slot → next < 2 ^ 64 → target ≡ min (next + ahead) (2 ^ 64 - 1) → ahead ≡ 0
-    → Counts (moment target slot.channel) n (drop own slots) (drop own laps)
-    → ((k : ℕ) (d : Slot) → n ≡ suc k → (get_or slots (own + k) d).channel ≡ slot.channel → ⊥)
-    → (f : Frame) (row : List Frame) → slot_of f ≡ slot → map slot_of row ≡ slots → IsArranged last row → All HasChannel row → Counted lap last own next n slot slots
-counted-last slots laps slot lap last own next target ahead n above fc l laps_are next_is small target_is none counts other =
-    let t : target ≡ next = omega arith in
-    counted-on slots laps slot lap last own next n above fc l laps_are next_is (subst (λ (x : ℕ). Counts (moment x slot.channel) n (drop own slots) (drop own laps)) t counts) other
 
 -- the same of the frame and of the row
 pub takes-row : (its lap last p : ℕ) (f : Frame) (row : List Frame) (slot : Slot) (slots : List Slot) → slot_of f ≡ slot → map slot_of row ≡ slots → TakesLap its lap last p slot slots → TakesLap its lap last p (slot_of f) (map slot_of row)

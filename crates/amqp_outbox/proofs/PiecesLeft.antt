@@ -6,7 +6,7 @@ use Rattle.amqp_frame.specs.Splitting.{stream}
 use Rattle.amqp_outbox.specs.PiecesQueues.{frame_of, frames_of, IsChunk}
 use Rattle.amqp_outbox.specs.declared.queues.Chunk.{Chunk}
 use Rattle.amqp_model.specs.Output.Arrangement.{arranged}
-use Rattle.amqp_outbox.specs.PiecesQueues.{on_channels, row_of}
+use Rattle.amqp_outbox.specs.PiecesQueues.{on_channels, row_of_queues}
 use Rattle.amqp_outbox.specs.PiecesRing.{row_in}
 use Rattle.amqp_outbox.specs.declared.queues.Queue.{Queue}
 use Rattle.amqp_outbox.specs.declared.queues.Queues.{Queues}
@@ -28,7 +28,7 @@ chunk-lends items lent chunk piece a h is e =
 
 -- all that waits
 pub row-parts : (ahead : List ℕ) (last : ℕ) (queues : Queues) (lent : List Queue) (ring : Ring) → lent ≡ queues.channels.items → row_in ring ≡ arranged last (on_channels lent)
-    → ahead ++ (stream (frames_of queues.plain.items) ++ (stream (row_in ring) ++ stream (frames_of queues.leaving.items))) ≡ ahead ++ stream (row_of last queues)
+    → ahead ++ (stream (frames_of queues.plain.items) ++ (stream (row_in ring) ++ stream (frames_of queues.leaving.items))) ≡ ahead ++ stream (row_of_queues last queues)
 row-parts ahead last queues lent ring e r =
     let a = frames_of queues.plain.items in
     let b = arranged last (on_channels queues.channels.items) in

@@ -7,7 +7,7 @@ use Rattle.std.proofs.lemmas.List.{map-append}
 use Rattle.std.proofs.lemmas.List.Elements.{All-nil, All-cons, All-head, All-tail, All-append, All-weaker, All-map}
 use Rattle.amqp_model.specs.Output.Arrangement.{last_after, IsChannel, HasChannel, placed, arranged}
 use Rattle.amqp_model.specs.Laws.ArrangementLaws.{OneRow, PutsMakeRow, PutArranges, LeavingIsPutLast, LowestAboveComesFirst}
-use Rattle.amqp_outbox.specs.PiecesQueues.{frame_of, frames_of, IsChunk, IsPlain, IsLeaving, IsQueue, AreSound, on_channels, row_of, IsEmpty, IsTurnOf, QueueGives, QueueTakes}
+use Rattle.amqp_outbox.specs.PiecesQueues.{frame_of, frames_of, IsChunk, IsPlain, IsLeaving, IsQueue, AreSound, on_channels, row_of_queues, IsEmpty, IsTurnOf, QueueGives, QueueTakes}
 use Rattle.amqp_outbox.specs.declared.queues.Chunk.{Chunk}
 use Rattle.amqp_outbox.specs.declared.queues.Queue.{Queue}
 use Rattle.amqp_outbox.specs.declared.queues.Queues.{Queues}
@@ -19,7 +19,7 @@ row-above last queues a = arranged-keeps IsAbove last (on_channels queues) (all-
 
 -- a plain frame is put
 pub plain-put : (last : ℕ) (chunk : Chunk) (old new : Queues) → IsChannel last → AreSound old → IsPlain chunk → new.plain.items ≡ old.plain.items ++ chunk ∷ [] → new.channels.items ≡ old.channels.items → new.leaving.items ≡ old.leaving.items
-    → row_of last new ≡ placed last (frame_of chunk) (row_of last old)
+    → row_of_queues last new ≡ placed last (frame_of chunk) (row_of_queues last old)
 plain-put last chunk old new l s p e f g =
     let is = (plain-frames (chunk ∷ []) (All-cons IsPlain chunk [] p (All-nil IsPlain))) 0 (frame_of chunk) (omega arith) in
     let b = arranged last (on_channels old.channels.items) in
@@ -27,7 +27,7 @@ plain-put last chunk old new l s p e f g =
     ∙ sym (put-plain last (frame_of chunk) (frames_of old.plain.items) b (frames_of old.leaving.items) is l (plain-frames old.plain.items s.plain) (row-above last old.channels.items s.channels) (leaving-frames old.leaving.items s.leaving))
 
 -- all frames have channels
-with-channels : (last : ℕ) (old : Queues) → AreSound old → All HasChannel (row_of last old)
+with-channels : (last : ℕ) (old : Queues) → AreSound old → All HasChannel (row_of_queues last old)
 with-channels last old s =
     let p = All-weaker IsPlainFrame HasChannel (λ f z. let e = z.zero in omega arith) (frames_of old.plain.items) (plain-frames old.plain.items s.plain) in
     let a = above-channels _ (row-above last old.channels.items s.channels) in
@@ -36,7 +36,7 @@ with-channels last old s =
 
 -- a frame that leaves the connection is put
 pub leaving-put : LeavingIsPutLast → (last : ℕ) (chunk : Chunk) (old new : Queues) → AreSound old → IsLeaving chunk → new.leaving.items ≡ old.leaving.items ++ chunk ∷ [] → new.plain.items ≡ old.plain.items → new.channels.items ≡ old.channels.items
-    → row_of last new ≡ placed last (frame_of chunk) (row_of last old)
+    → row_of_queues last new ≡ placed last (frame_of chunk) (row_of_queues last old)
 leaving-put law last chunk old new s p e f g =
     let is = (leaving-frames (chunk ∷ []) (All-cons IsLeaving chunk [] p (All-nil IsLeaving))) 0 (frame_of chunk) (omega arith) in
     let b = arranged last (on_channels old.channels.items) in
@@ -45,7 +45,7 @@ leaving-put law last chunk old new s p e f g =
 
 -- a frame of a channel above 0 is put
 pub above-put : OneRow → PutsMakeRow → PutArranges → (last : ℕ) (chunk : Chunk) (old new : Queues) → IsChannel last → AreSound old → IsChunk chunk → 0 < chunk.slot.channel → QueueTakes chunk old.channels.items new.channels.items
-    → new.plain.items ≡ old.plain.items → new.leaving.items ≡ old.leaving.items → row_of last new ≡ placed last (frame_of chunk) (row_of last old)
+    → new.plain.items ≡ old.plain.items → new.leaving.items ≡ old.leaving.items → row_of_queues last new ≡ placed last (frame_of chunk) (row_of_queues last old)
 above-put one made puts last chunk old new l s whole above t f g =
     let is : IsAbove (frame_of chunk) = record { above = above; channel = whole.channel } in
     let b = arranged last (on_channels old.channels.items) in
@@ -71,7 +71,7 @@ none-on (q ∷ later) a = ap₂ (λ x y. frames_of x ++ y) (no-items q (All-head
 
 -- what stands after a frame that leaves
 abbrev pub Leaves : (last : ℕ) (old new : Queues) → Option Chunk → Type 0
-Leaves last old new result = MatchOption result ((row_of last old ≡ []) × (row_of last new ≡ [])) (λ chunk. row_of last old ≡ frame_of chunk ∷ row_of (last_after last (frame_of chunk)) new)
+Leaves last old new result = MatchOption result ((row_of_queues last old ≡ []) × (row_of_queues last new ≡ [])) (λ chunk. row_of_queues last old ≡ frame_of chunk ∷ row_of_queues (last_after last (frame_of chunk)) new)
 
 pub above-leaves : OneRow → PutsMakeRow → LowestAboveComesFirst → (last at : ℕ) (old new : Queues) (result : Option Chunk) → IsChannel last → AreSound old → IsTurnOf last at old.channels.items → QueueGives at result old.channels.items new.channels.items
     → old.plain.items ≡ [] → new.plain.items ≡ [] → new.leaving.items ≡ old.leaving.items → Leaves last old new result

@@ -9,7 +9,7 @@ use Rattle.amqp_frame.specs.Splitting.{stream}
 use Rattle.amqp_model.specs.Output.Arrangement.{turn, last_after, on, placed, placed_all, arranged}
 use Rattle.amqp_outbox.specs.OutboxSlots.{slot_of, slot_length, slots_length_on}
 use Rattle.amqp_outbox.specs.PiecesFields.{IsWhole}
-use Rattle.amqp_outbox.specs.PiecesQueues.{frame_of, frames_of, IsChunk, IsPlain, IsLeaving, IsQueue, IsOn, AreSound, on_channels, row_of}
+use Rattle.amqp_outbox.specs.PiecesQueues.{frame_of, frames_of, IsChunk, IsPlain, IsLeaving, IsQueue, IsOn, AreSound, on_channels, row_of_queues}
 use Rattle.amqp_outbox.specs.declared.slots.Slot.{Slot}
 use Rattle.amqp_outbox.specs.declared.queues.Chunk.{Chunk}
 use Rattle.amqp_outbox.specs.declared.queues.Queue.{Queue}
@@ -63,7 +63,7 @@ on-placed_all channel last (f ∷ frames) row =
 
 -- the row has what the queues have
 pub on-row : (channel last : ℕ) (queues : Queues)
-    → octets_on channel (row_of last queues) ≡ octets_on channel (frames_of queues.plain.items) + (octets_on channel (on_channels queues.channels.items) + octets_on channel (frames_of queues.leaving.items))
+    → octets_on channel (row_of_queues last queues) ≡ octets_on channel (frames_of queues.plain.items) + (octets_on channel (on_channels queues.channels.items) + octets_on channel (frames_of queues.leaving.items))
 on-row channel last queues =
     let plain = frames_of queues.plain.items in
     let row = arranged last (on_channels queues.channels.items) in
@@ -109,7 +109,7 @@ on-queues_zero (q ∷ queues) h =
     omega arith
 
 -- channel 0 has its plain frames and those that leave the connection; a channel above 0 has its queue
-pub waiting-zero : (last : ℕ) (queues : Queues) → AreSound queues → octets_on 0 (row_of last queues) ≡ length (stream (frames_of queues.plain.items)) + length (stream (frames_of queues.leaving.items))
+pub waiting-zero : (last : ℕ) (queues : Queues) → AreSound queues → octets_on 0 (row_of_queues last queues) ≡ length (stream (frames_of queues.plain.items)) + length (stream (frames_of queues.leaving.items))
 waiting-zero last queues s =
     let a = on-row 0 last queues in
     let b = all-on 0 queues.plain.items (All-weaker IsPlain (λ (c : Chunk). c.slot.channel ≡ 0) (λ c p. p.1) queues.plain.items s.plain) in
@@ -117,7 +117,7 @@ waiting-zero last queues s =
     let d = on-queues_zero queues.channels.items s.channels in
     omega arith
 
-pub waiting-above : (channel last : ℕ) (queues : Queues) → AreSound queues → 0 < channel → octets_on channel (row_of last queues) ≡ octets_on channel (on_channels queues.channels.items)
+pub waiting-above : (channel last : ℕ) (queues : Queues) → AreSound queues → 0 < channel → octets_on channel (row_of_queues last queues) ≡ octets_on channel (on_channels queues.channels.items)
 waiting-above channel last queues s above =
     let a = on-row channel last queues in
     let b = none-on channel queues.plain.items (All-weaker IsPlain (λ (c : Chunk). c.slot.channel ≢ channel) (λ c p e. let z = p.1 in absurd (omega arith)) queues.plain.items s.plain) in
@@ -224,7 +224,7 @@ length-placed_all last (f ∷ frames) row =
     omega arith
 
 pub row-length : (last : ℕ) (queues : Queues)
-    → length (stream (row_of last queues)) ≡ length (stream (frames_of queues.plain.items)) + (length (stream (on_channels queues.channels.items)) + length (stream (frames_of queues.leaving.items)))
+    → length (stream (row_of_queues last queues)) ≡ length (stream (frames_of queues.plain.items)) + (length (stream (on_channels queues.channels.items)) + length (stream (frames_of queues.leaving.items)))
 row-length last queues =
     let plain = frames_of queues.plain.items in
     let row = arranged last (on_channels queues.channels.items) in
@@ -237,9 +237,9 @@ row-length last queues =
     omega arith
 
 -- what waits of a channel is some of what waits
-pub waits-most : (x : Inside) (channel n : ℕ) → IsWhole x → n ≡ octets_on channel (row_of x.last x.queues) → (length x.ahead.items - x.written) + n ≤ x.waiting
+pub waits-most : (x : Inside) (channel n : ℕ) → IsWhole x → n ≡ octets_on channel (row_of_queues x.last x.queues) → (length x.ahead.items - x.written) + n ≤ x.waiting
 waits-most x channel n w e =
-    let row = row_of x.last x.queues in
+    let row = row_of_queues x.last x.queues in
     let a = length-drop x.written x.ahead.items in
     let b = on-most channel row in
     let c = length-append (drop x.written x.ahead.items) (stream row) in

@@ -8,5 +8,5 @@ joined [] = []
 joined (chunk ∷ later) = chunk.items ++ joined later
 
 -- what is left once so many octets of the first chunk are taken
-abbrev pub left_of : (taken : ℕ) → (first : List ℕ) → (later : List (Vec ℕ Global)) → List ℕ
-left_of taken first later = drop taken first ++ joined later
+abbrev pub joined_after : (taken : ℕ) → (first : List ℕ) → (later : List (Vec ℕ Global)) → List ℕ
+joined_after taken first later = drop taken first ++ joined later

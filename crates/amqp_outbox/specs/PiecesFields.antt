@@ -3,12 +3,12 @@ use Rattle.std.specs.Prelude.{◌≡◌, ◌+◌, ◌^◌, ◌<◌, ◌≤◌, l
 use Rattle.amqp_frame.specs.Splitting.{stream}
 use Rattle.amqp_model.specs.Output.Outputs.{output_octets}
 use Rattle.amqp_outbox.specs.OutboxView.{Outgoing}
-use Rattle.amqp_outbox.specs.PiecesQueues.{frames_of, IsChunk, AreSound, HaveRoom, row_of}
+use Rattle.amqp_outbox.specs.PiecesQueues.{frames_of, IsChunk, AreSound, HaveRoom, row_of_queues}
 use Rattle.amqp_outbox.specs.declared.send_queue.SendQueue.TheInside.{Inside}
 
 abbrev pub outgoing_in : Inside → Outgoing
 outgoing_in x = record {
-  output = record { ahead = drop x.written x.ahead.items; begun_on = x.begun_on; last = x.last; row = row_of x.last x.queues };
+  output = record { ahead = drop x.written x.ahead.items; begun_on = x.begun_on; last = x.last; row = row_of_queues x.last x.queues };
   staged = frames_of x.staged.items;
 }
 

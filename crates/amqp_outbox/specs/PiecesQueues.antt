@@ -62,8 +62,8 @@ on_channels [] = []
 on_channels (queue ∷ later) = frames_of queue.frames.items ++ on_channels later
 
 -- the row of the frames that wait
-abbrev pub row_of : (last : ℕ) → Queues → List Frame
-row_of last queues = frames_of queues.plain.items ++ (arranged last (on_channels queues.channels.items) ++ frames_of queues.leaving.items)
+abbrev pub row_of_queues : (last : ℕ) → Queues → List Frame
+row_of_queues last queues = frames_of queues.plain.items ++ (arranged last (on_channels queues.channels.items) ++ frames_of queues.leaving.items)
 
 -- how many of the chunks wait in such a queue
 abbrev pub count : (Slot → Bool) → List Chunk → ℕ

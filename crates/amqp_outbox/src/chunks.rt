@@ -1,6 +1,6 @@
 //! A body in chunks: octets that are let go chunk by chunk, as they are taken.
 ghost use Rattle.std.specs.Prelude.{◌≡◌, ◌+◌, ◌<◌, ◌≤◌, ◌==◌, [], ◌++◌, length, take, drop, vec_len, vec_capacity, IfErr, OnOk, OnErr};
-ghost use Rattle.amqp_outbox.specs.Chunks.{left_of};
+ghost use Rattle.amqp_outbox.specs.Chunks.{joined_after};
 
 use std::alloc::{AllocFailed, Global};
 use std::collections::VecDeque;
@@ -26,9 +26,9 @@ impl Model for Chunks {
 
     ghost Value = { List ℕ };
 
-    ghost use Rattle.amqp_outbox.specs.ChunksFields.{octets_left, IsCounted};
+    ghost use Rattle.amqp_outbox.specs.ChunksFields.{octets_in_chunks, IsCounted};
 
-    ghost view = { octets_left };
+    ghost view = { octets_in_chunks };
 
     ghost invariant = { IsCounted };
 }
@@ -98,13 +98,13 @@ fn move_octets(
     octets: &mut Vec<u8>,
 ) -> usize
     requires within { before ≤ length first.old.items }
-    requires there { count ≤ length (left_of before first.old.items later.old.items) }
+    requires there { count ≤ length (joined_after before first.old.items later.old.items) }
     requires room { vec_len octets.old + count ≤ vec_capacity octets.old }
     ensures within { result ≤ length first.new.items }
     ensures octets { octets.new.items
-        ≡ octets.old.items ++ take count (left_of before first.old.items later.old.items) }
-    ensures left { left_of result first.new.items later.new.items
-        ≡ drop count (left_of before first.old.items later.old.items) }
+        ≡ octets.old.items ++ take count (joined_after before first.old.items later.old.items) }
+    ensures left { joined_after result first.new.items later.new.items
+        ≡ drop count (joined_after before first.old.items later.old.items) }
     ensures room { vec_capacity octets.old ≤ vec_capacity octets.new }
 {
     let mut taken = before;
@@ -126,7 +126,7 @@ fn move_octets(
 /// Lets a chunk go that is used up, and begins the next.
 fn begin_next(first: &mut Vec<u8>, later: &mut VecDeque<Vec<u8>>)
     requires { 0 < length later.old.items }
-    ensures left { left_of 0 first.new.items later.new.items ≡ left_of 0 [] later.old.items }
+    ensures left { joined_after 0 first.new.items later.new.items ≡ joined_after 0 [] later.old.items }
     ensures fewer { length later.new.items < length later.old.items }
 {
     match later.pop_front() {

@@ -2,7 +2,7 @@
 ghost use Rattle.std.specs.Prelude.{◌≡◌, ℕ, ◌+◌, ◌<◌, ◌≤◌, List, [], ◌++◌, length, All, MatchOption};
 ghost use Rattle.amqp_frame.specs.Splitting.{stream};
 ghost use Rattle.amqp_model.specs.Output.Arrangement.{arranged};
-ghost use Rattle.amqp_outbox.specs.PiecesQueues.{frames_of, AreSound, IsChunk, row_of};
+ghost use Rattle.amqp_outbox.specs.PiecesQueues.{frames_of, AreSound, IsChunk, row_of_queues};
 ghost use Rattle.amqp_outbox.specs.PiecesLent.{left_in};
 
 use crate::queues::{Chunk, Queues};
@@ -57,7 +57,7 @@ impl<'a> Pieces<'a> {
     /// What is left of a frame, and then what waits in the queues, where `last` is LAST.
     pub(crate) fn new(ahead: &'a [u8], queues: &'a Queues, last: u16) -> Pieces<'a>
         requires { AreSound queues.now }
-        ensures { result ≡ ahead.now ++ stream (row_of last queues.now) }
+        ensures { result ≡ ahead.now ++ stream (row_of_queues last queues.now) }
     {
         Pieces {
             ahead,

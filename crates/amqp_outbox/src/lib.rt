@@ -10,6 +10,7 @@
 mod chunks;
 mod handing;
 mod lending;
+mod newest;
 mod outbox;
 mod parts;
 mod queues;

@@ -7,7 +7,10 @@
 //! A frame's place is found by laps. The writer goes round the channels again and again, and each time is a lap: the
 //! frames of the row stand in the order of their laps, and within a lap in that of their channels. Where the last frame
 //! of the row is of the same channel, the new one stands after it, and nothing else is looked at. Otherwise the row is
-//! halved again and again: once where no frame of the channel waits, else some times for each doubling of how many do.
+//! halved again and again, twice at most, whatever waits of the channel: to find its newest frame, in the lap that is
+//! remembered of it (`newest.rt`) or, with none, in the one in which the channel is met next, and to find the place, in
+//! the lap after that. Once is enough where no frame of the channel waits; where there was no memory to remember a lap,
+//! it is once more for each of the channel's later frames.
 //!
 //! `output` lends one slice, so a frame that goes before others has to move octets. Where one channel is active each
 //! frame goes last: it is encoded where it stays, and nothing moves. Where the first frame that is staged goes before
@@ -38,6 +41,7 @@ ghost use Rattle.amqp_outbox.specs.OutboxView.{only, begins_with, with_staged, w
 
 use crate::chunks::Chunks;
 use crate::handing::{HandOverFault, stage_row};
+use crate::newest::{Newest, Writer};
 use crate::parts::{append_parts, count_parts};
 use crate::send_queue::SendQueue;
 use crate::slots::{Slot, Waiting, begun_of, length_from, length_on, place_of};
@@ -89,10 +93,12 @@ pub struct Outbox {
     slots: Vec<Waiting>,
     slots_begun: usize,
     slots_arranged: usize,
-    /// the channel whose frame was begun most recently, channel 0 too, 0 at first
-    begun_on: u16,
+    /// in which laps the newest frames of channels wait
+    newest: Newest,
     /// the lap in which the frame was begun that moved `last`
     lap: u64,
+    /// the channel whose frame was begun most recently, channel 0 too, 0 at first
+    begun_on: u16,
     /// the channel above 0 whose frame was begun most recently, 0 at first
     last: u16,
     /// how many writes in a row left little of much room
@@ -127,8 +133,9 @@ impl Outbox {
             slots: Vec::new(alloc),
             slots_begun: 0,
             slots_arranged: 0,
-            begun_on: 0,
+            newest: Newest::new(),
             lap: 0,
+            begun_on: 0,
             last: 0,
             spared: 0,
         }
@@ -185,6 +192,7 @@ impl Outbox {
         self.begun_on = 0;
         self.lap = 0;
         self.last = 0;
+        self.newest.forget();
         Ok(())
     }
 
@@ -198,6 +206,7 @@ impl Outbox {
         ensures { self.new ≡ with_output self.old (after_writing octets self.old.output) }
     {
         self.count_written(octets);
+        self.forget_newest();
         self.give_back();
     }
 
@@ -216,6 +225,15 @@ impl Outbox {
             self.begun_on = begun.on;
             self.lap = begun.lap;
             self.last = begun.last;
+        }
+    }
+
+    /// Forgets the laps of newest frames, where all frames of the row are begun.
+    fn forget_newest(&mut self)
+        ensures { self.new ≡ self.old }
+    {
+        if self.slots_begun == self.slots_arranged {
+            self.newest.forget();
         }
     }
 
@@ -524,12 +542,8 @@ impl Outbox {
         {
             return false;
         }
-        let soonest = if self.last < channel {
-            self.lap
-        } else {
-            self.lap.saturating_add(1)
-        };
-        if !newest.is_after(soonest, channel) {
+        let writer = Writer::at(self.lap, self.last);
+        if !newest.is_after(writer.next_lap(channel), channel) {
             return false;
         }
         let slot = Slot {
@@ -538,7 +552,8 @@ impl Outbox {
             kind: FrameKind::Body,
             leaving: false,
         };
-        place_of(row, slot, self.lap, self.last).before < row.len()
+        let remembered = self.newest.lap_of(row, channel, writer);
+        place_of(row, slot, self.lap, self.last, remembered).before < row.len()
     }
 
     /// Whether a frame that is staged now is the first one that goes before others. Then there is room aside for all
@@ -574,7 +589,11 @@ impl Outbox {
         let waiting = self.slots[self.slots_arranged];
         let slot = waiting.slot;
         let row = &self.slots[self.slots_begun..self.slots_arranged];
-        let place = place_of(row, slot, self.lap, self.last);
+        let writer = Writer::at(self.lap, self.last);
+        let remembered = self.newest.lap_of(row, slot.channel, writer);
+        let place = place_of(row, slot, self.lap, self.last, remembered);
+        self.newest
+            .note_put(self.alloc, row, slot.channel, place, writer);
         let moved = length_from(row, place.before, self.arranged - self.begun);
         let count = slot.length();
         let at = self.arranged - moved;
@@ -616,7 +635,11 @@ impl Outbox {
         };
         let row = &self.slots[self.slots_begun..self.slots_arranged];
         let staged = &self.slots[self.slots_arranged..];
-        let Ok(coming) = find_places(self.alloc, row, staged, channel, self.lap, self.last) else {
+        let writer = Writer::at(self.lap, self.last);
+        let remembered = self.newest.lap_of(row, channel, writer);
+        let Ok(coming) = find_places(
+            self.alloc, row, staged, channel, self.lap, self.last, remembered,
+        ) else {
             return;
         };
         if coming.is_empty() {
@@ -641,6 +664,7 @@ impl Outbox {
         self.begun = ends.begun;
         self.arranged = ends.arranged;
         self.slots_arranged += coming.len();
+        self.newest.note_puts(self.alloc, &coming, writer);
     }
 
     /// Puts all that is staged, each frame in its place.

@@ -10,7 +10,7 @@ ghost use Rattle.std.specs.VecDeque.{deque_len, deque_capacity};
 ghost use Rattle.amqp_frame.specs.Splitting.{stream};
 ghost use Rattle.amqp_model.specs.Output.Arrangement.{last_after, on, placed};
 ghost use Rattle.amqp_outbox.specs.OutboxFaults.{out_of_memory};
-ghost use Rattle.amqp_outbox.specs.PiecesQueues.{frame_of, frames_of, IsChunk, IsQueue, Ascends, AreSound, on_channels, row_of, HaveRoom, HasQueue, QueuesStay, QueueTakes, QueueGives, IsUpTo, IsAfter, IsEmpty, AllEmpty, IsFirstWaiting, IsTurnOf, IsQueueOf, HasRoomOn, RoomsKept, RoomsMade};
+ghost use Rattle.amqp_outbox.specs.PiecesQueues.{frame_of, frames_of, IsChunk, IsQueue, Ascends, AreSound, on_channels, row_of_queues, HaveRoom, HasQueue, QueuesStay, QueueTakes, QueueGives, IsUpTo, IsAfter, IsEmpty, AllEmpty, IsFirstWaiting, IsTurnOf, IsQueueOf, HasRoomOn, RoomsKept, RoomsMade};
 ghost use Rattle.amqp_outbox.specs.declared.queues.Chunk.{Chunk};
 ghost use Rattle.amqp_outbox.specs.declared.queues.Queue.{Queue};
 
@@ -47,7 +47,7 @@ impl Queues {
     /// No frame waits.
     pub(crate) fn new(alloc: Global) -> Queues
         ensures sound { AreSound result }
-        ensures row { (last : ℕ) → row_of last result ≡ [] }
+        ensures row { (last : ℕ) → row_of_queues last result ≡ [] }
         ensures room { HaveRoom result [] }
     {
         Queues {
@@ -67,7 +67,7 @@ impl Queues {
         requires sound { AreSound self.old }
         requires zero { slot.leaving ≡ true → slot.channel ≡ 0 }
         ensures sound { AreSound self.new }
-        ensures row { (last : ℕ) → row_of last self.new ≡ row_of last self.old }
+        ensures row { (last : ℕ) → row_of_queues last self.new ≡ row_of_queues last self.old }
         ensures kept { (staged : List Chunk) → HaveRoom self.old staged → HaveRoom self.new staged }
         ensures made { OnOk result ((staged : List Chunk) (chunk : Chunk) → chunk.slot ≡ slot → length staged < more
             → HaveRoom self.old staged → HaveRoom self.new (staged ++ chunk ∷ [])) }
@@ -91,7 +91,7 @@ impl Queues {
         requires room { (staged : List Chunk) × HaveRoom self.old (chunk ∷ staged) }
         ensures sound { AreSound self.new }
         ensures row { (last : ℕ) → last < 2 ^ 16
-            → row_of last self.new ≡ placed last (frame_of chunk) (row_of last self.old) }
+            → row_of_queues last self.new ≡ placed last (frame_of chunk) (row_of_queues last self.old) }
         ensures room { (staged : List Chunk) → HaveRoom self.old (chunk ∷ staged) → HaveRoom self.new staged }
     {
         arrangement::one_row();
@@ -110,8 +110,8 @@ impl Queues {
     /// How many octets wait of a channel.
     pub(crate) fn waiting(&self, channel: u16) -> usize
         requires sound { AreSound self.now }
-        requires fits { (last : ℕ) × (length (stream (row_of last self.now)) < 2 ^ 64) }
-        ensures { (last : ℕ) → result ≡ length (stream (on channel (row_of last self.now))) }
+        requires fits { (last : ℕ) × (length (stream (row_of_queues last self.now)) < 2 ^ 64) }
+        ensures { (last : ℕ) → result ≡ length (stream (on channel (row_of_queues last self.now))) }
     {
         if channel == 0 {
             return length_of(&self.plain) + length_of(&self.leaving);
@@ -124,8 +124,9 @@ impl Queues {
         requires sound { AreSound self.old }
         ensures sound { AreSound self.new }
         ensures whole { IfSome result (λ chunk. IsChunk chunk) }
-        ensures row { MatchOption result ((row_of last self.old ≡ []) × (row_of last self.new ≡ []))
-            (λ chunk. row_of last self.old ≡ frame_of chunk ∷ row_of (last_after last (frame_of chunk)) self.new) }
+        ensures row { MatchOption result ((row_of_queues last self.old ≡ []) × (row_of_queues last self.new ≡ []))
+            (λ chunk. row_of_queues last self.old
+            ≡ frame_of chunk ∷ row_of_queues (last_after last (frame_of chunk)) self.new) }
         ensures room { (staged : List Chunk) → HaveRoom self.old staged → HaveRoom self.new staged }
     {
         arrangement::one_row();

@@ -164,10 +164,20 @@ pub(crate) fn begun_of(row: &[Waiting], octets: usize, begun_on: u16, lap: u64, 
 
 /// Where a frame stands in the row of others, after so many of them, and in which lap its turn comes.
 ///
-/// Where the last frame of the row is of its channel, it stands after it. Otherwise the last frame of its channel is
-/// looked for, in steps that double and then halve: a channel has its frames in laps that follow one another. Each look
-/// takes the logarithm of the row's length, and there is a single one where no frame of the channel waits.
-pub(crate) fn place_of(row: &[Waiting], slot: Slot, lap: u64, last: u16) -> Place
+/// A channel has its frames in laps that follow one another, and a new one goes into the lap after that of the newest.
+/// Where the last frame of the row is of its channel, it stands after it. Otherwise the newest frame of its channel is
+/// looked for in the lap that the caller remembers, or, with none, in the one in which the channel is met next; and
+/// then in the laps after it, until one has no frame of the channel: the place is there. Each look takes the logarithm
+/// of the row's length. There are two where the newest frame stands in the first of these laps, and one where no frame
+/// of the channel waits and no lap is remembered; each frame of the channel in a later lap takes one more. What is
+/// remembered decides nothing but how many looks there are.
+pub(crate) fn place_of(
+    row: &[Waiting],
+    slot: Slot,
+    lap: u64,
+    last: u16,
+    remembered: Option<u64>,
+) -> Place
     requires laps_are { laps_in row.now ≡ laps_of lap last (slots_in row.now) }
     requires fits { lap + length row.now + 1 < 2 ^ 64 }
     ensures within { result.before ≤ length row.now }
@@ -187,11 +197,11 @@ pub(crate) fn place_of(row: &[Waiting], slot: Slot, lap: u64, last: u16) -> Plac
             lap: 0,
         };
     }
-    place_on(row, slot, lap, last)
+    place_on(row, slot, lap, last, remembered)
 }
 
 /// The same for a frame of a channel above 0.
-fn place_on(row: &[Waiting], slot: Slot, lap: u64, last: u16) -> Place
+fn place_on(row: &[Waiting], slot: Slot, lap: u64, last: u16, remembered: Option<u64>) -> Place
     requires above { 0 < slot.channel }
     requires laps_are { laps_in row.now ≡ laps_of lap last (slots_in row.now) }
     requires fits { lap + length row.now + 1 < 2 ^ 64 }
@@ -200,20 +210,15 @@ fn place_on(row: &[Waiting], slot: Slot, lap: u64, last: u16) -> Place
     ensures lap { IsLap lap last slot (slots_in row.now) result.before result.lap }
 {
     let channel = slot.channel;
-    let mut own = newest_of(row, channel);
-    let mut ahead: u64 = 0;
+    let mut own = newest_of(row, channel, remembered);
     loop {
         let next = next_lap(row, own, slot, lap, last);
-        let target = next.saturating_add(ahead);
-        let found = count_until(&row[own..], target, channel);
+        let found = count_until(&row[own..], next, channel);
         let before = own + found;
         if found > 0 && row[before - 1].slot.channel == channel {
             own = before;
-            ahead = ahead.saturating_mul(2).saturating_add(1);
-        } else if ahead == 0 {
-            return Place { before, lap: next };
         } else {
-            ahead /= 2;
+            return Place { before, lap: next };
         }
     }
 }
@@ -234,15 +239,31 @@ fn next_lap(row: &[Waiting], own: usize, slot: Slot, lap: u64, last: u16) -> u64
     row[own - 1].lap + 1
 }
 
-/// All the slots, where the last of them is of a channel, and else none.
-fn newest_of(row: &[Waiting], channel: u16) -> usize
+/// How many of the slots end with a frame of a channel: all, where the last of them is of the channel; else those up to
+/// its frame in a lap, if it has one there; else none.
+fn newest_of(row: &[Waiting], channel: u16, remembered: Option<u64>) -> usize
     ensures within { result ≤ length row.now }
     ensures own { EndsWithChannel channel (take result (slots_in row.now)) }
 {
     match row.last() {
         Some(newest) if newest.slot.channel == channel => row.len(),
-        _ => 0,
+        _ => match remembered {
+            Some(lap) => count_to_lap(row, channel, lap),
+            None => 0,
+        },
     }
+}
+
+/// How many of the slots there are up to a channel's frame in a lap: none, where it has no frame there.
+fn count_to_lap(row: &[Waiting], channel: u16, lap: u64) -> usize
+    ensures within { result ≤ length row.now }
+    ensures own { EndsWithChannel channel (take result (slots_in row.now)) }
+{
+    let before = count_until(row, lap, channel);
+    if before > 0 && row[before - 1].slot.channel == channel {
+        return before;
+    }
+    0
 }
 
 /// How many frames of a row stand before the first that has its turn after a channel's in a lap.

@@ -37,7 +37,8 @@ pub(crate) struct Ends {
     pub(crate) arranged: usize,
 }
 
-/// The places of the first staged frames: of those that are of a channel and go before frames of the row.
+/// The places of the first staged frames: of those that are of a channel and go before frames of the row. The first
+/// place is looked for from the lap that is remembered of the channel, the others each from the one before.
 pub(crate) fn find_places(
     alloc: Global,
     row: &[Waiting],
@@ -45,6 +46,7 @@ pub(crate) fn find_places(
     channel: u16,
     lap: u64,
     last: u16,
+    remembered: Option<u64>,
 ) -> Result<Vec<Coming>, StageFault>
     requires above { 0 < channel }
     requires laps_are { laps_in row.now ≡ laps_of lap last (slots_in row.now) }
@@ -59,12 +61,13 @@ pub(crate) fn find_places(
     let mut from = 0;
     let mut now = lap;
     let mut then = last;
+    let mut known = remembered;
     for waiting in staged {
         let slot = waiting.slot;
         if slot.channel != channel {
             return Ok(coming);
         }
-        let found = place_of(&row[from..], slot, now, then);
+        let found = place_of(&row[from..], slot, now, then, known);
         let place = from + found.before;
         if place == row.len() {
             return Ok(coming);
@@ -77,6 +80,7 @@ pub(crate) fn find_places(
         from = place;
         now = found.lap;
         then = channel;
+        known = None;
     }
     Ok(coming)
 }

@@ -1,4 +1,4 @@
-use Rattle.std.proofs.Common.{◌≡◌, ◌+◌, ◌-◌, List, ℕ, ◌++◌, length, map, take, drop, vec_capacity}
+use Rattle.std.proofs.Common.{◌≡◌, ◌-◌, List, ℕ, ◌++◌, length, map, take, drop, vec_capacity}
 use Rattle.amqp_frame.specs.Frame.{Frame}
 use Rattle.amqp_frame.specs.Splitting.{stream}
 use Rattle.amqp_outbox.specs.OutboxSlots.{slot_of, slots_in}

@@ -98,7 +98,7 @@ invariant_of-self c =
     let coming = c.in-Ok.coming.items in
     let octets = c.length_of-total.result in
     let ends = c.weave-ends.result in
-    let y : Inside = record x { octets = c.weave-ends.new.octets; aside = c.clear.new.self; written = ends.written; begun = ends.begun; arranged = ends.arranged; slots = c.weave_slots.new.slots; slots_arranged = x.slots_arranged + c.len-2.result } in
+    let y : Inside = record x { octets = c.weave-ends.new.octets; aside = c.clear.new.self; written = ends.written; begun = ends.begun; arranged = ends.arranged; slots = c.weave_slots.new.slots; slots_arranged = x.slots_arranged + c.len-2.result; newest = c.note_puts.new.self } in
     let rows = row-lent x _ s c.deref.ensures.value in
     let staged = staged-lent x _ s c.deref-2.ensures.value in
     let octets_is = c.length_of-total.ensures ∙ ap (λ (cs : List Coming). slots_length (slots_of cs)) c.deref-3.ensures.value in
@@ -114,7 +114,7 @@ returns c =
     let coming = c.in-Ok.coming.items in
     let octets = c.length_of-total.result in
     let ends = c.weave-ends.result in
-    let y : Inside = record x { octets = c.weave-ends.new.octets; aside = c.clear.new.self; written = ends.written; begun = ends.begun; arranged = ends.arranged; slots = c.weave_slots.new.slots; slots_arranged = x.slots_arranged + c.len-2.result } in
+    let y : Inside = record x { octets = c.weave-ends.new.octets; aside = c.clear.new.self; written = ends.written; begun = ends.begun; arranged = ends.arranged; slots = c.weave_slots.new.slots; slots_arranged = x.slots_arranged + c.len-2.result; newest = c.note_puts.new.self } in
     let rows = row-lent x _ s c.deref.ensures.value in
     let staged = staged-lent x _ s c.deref-2.ensures.value in
     let octets_is = c.length_of-total.ensures ∙ ap (λ (cs : List Coming). slots_length (slots_of cs)) c.deref-3.ensures.value in

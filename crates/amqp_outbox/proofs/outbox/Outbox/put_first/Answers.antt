@@ -99,7 +99,7 @@ invariant_of-self c =
     let p = c.place_of-place.result.before in
     let few : p ≤ length (row_of x) = subst (λ n. p ≤ n) (sym (count-slots _) ∙ (ap length row ∙ length-map (row_of x) slot_of)) c.place_of-place.ensures.within in
     let at = c.place_of-place.ensures.place b.first (row_of x) s.slot_is (sym row) c.self.invariant.in_turn c.self.invariant.row_channels in
-    let y : Inside = record x { octets = c.move_down.new.octets; aside = c.join.new.aside; written = x.written - c.length-count.result; begun = x.begun - c.length-count.result; slots = c.put_slot.new.slots; slots_arranged = x.slots_arranged + 1 } in
+    let y : Inside = record x { octets = c.move_down.new.octets; aside = c.join.new.aside; written = x.written - c.length-count.result; begun = x.begun - c.length-count.result; slots = c.put_slot.new.slots; slots_arranged = x.slots_arranged + 1; newest = c.note_put.new.self } in
     let octets : all_octets y ≡ moved_down x.written (x.arranged - c.length_from-moved.result) x.arranged c.length-count.result (all_octets x) =
     none-aside _ _ c.join.ensures.aside ∙ (c.move_down.ensures ∙ ap (moved_down x.written (x.arranged - c.length_from-moved.result) x.arranged c.length-count.result) c.join.ensures.octets) in
     let laid = frame-put-down x y b.first b.later p c.length_from-moved.result c.length-count.result c.self.invariant s.staged few moved s.count_is c.if-count-self.true octets c.put_slot.ensures.slots refl refl refl refl refl in
@@ -118,7 +118,7 @@ invariant_of-self-else-count-self c =
     let p = c.place_of-place.result.before in
     let few : p ≤ length (row_of x) = subst (λ n. p ≤ n) (sym (count-slots _) ∙ (ap length row ∙ length-map (row_of x) slot_of)) c.place_of-place.ensures.within in
     let at = c.place_of-place.ensures.place b.first (row_of x) s.slot_is (sym row) c.self.invariant.in_turn c.self.invariant.row_channels in
-    let y : Inside = record x { octets = c.move_up.new.items; aside = c.join.new.aside; arranged = x.arranged + c.length-count.result; slots = c.put_slot.new.slots; slots_arranged = x.slots_arranged + 1 } in
+    let y : Inside = record x { octets = c.move_up.new.items; aside = c.join.new.aside; arranged = x.arranged + c.length-count.result; slots = c.put_slot.new.slots; slots_arranged = x.slots_arranged + 1; newest = c.note_put.new.self } in
     let octets : all_octets y ≡ moved_up (x.arranged - c.length_from-moved.result) (x.arranged + c.length-count.result) c.length-count.result (all_octets x) =
     none-aside _ _ c.join.ensures.aside ∙ (c.move_up.ensures ∙ ap (moved_up (x.arranged - c.length_from-moved.result) (x.arranged + c.length-count.result) c.length-count.result) c.join.ensures.octets) in
     let laid = frame-put x y b.first b.later p c.length_from-moved.result c.length-count.result (x.arranged + c.length-count.result) c.self.invariant s.staged few moved s.count_is refl octets c.put_slot.ensures.slots refl refl refl refl refl in
@@ -136,7 +136,7 @@ returns-then-at-self c f later staged =
     let p = c.place_of-place.result.before in
     let few : p ≤ length (row_of x) = subst (λ n. p ≤ n) (sym (count-slots _) ∙ (ap length row ∙ length-map (row_of x) slot_of)) c.place_of-place.ensures.within in
     let at = c.place_of-place.ensures.place f (row_of x) s.slot_is (sym row) c.self.invariant.in_turn c.self.invariant.row_channels in
-    let y : Inside = record x { octets = c.move_down.new.octets; aside = c.join.new.aside; written = x.written - c.length-count.result; begun = x.begun - c.length-count.result; slots = c.put_slot.new.slots; slots_arranged = x.slots_arranged + 1 } in
+    let y : Inside = record x { octets = c.move_down.new.octets; aside = c.join.new.aside; written = x.written - c.length-count.result; begun = x.begun - c.length-count.result; slots = c.put_slot.new.slots; slots_arranged = x.slots_arranged + 1; newest = c.note_put.new.self } in
     let octets : all_octets y ≡ moved_down x.written (x.arranged - c.length_from-moved.result) x.arranged c.length-count.result (all_octets x) =
     none-aside _ _ c.join.ensures.aside ∙ (c.move_down.ensures ∙ ap (moved_down x.written (x.arranged - c.length_from-moved.result) x.arranged c.length-count.result) c.join.ensures.octets) in
     put_view x y f later p _ _ c.args.self.now c.self.view_is refl refl at
@@ -151,7 +151,7 @@ returns-else-count-self c f later staged =
     let p = c.place_of-place.result.before in
     let few : p ≤ length (row_of x) = subst (λ n. p ≤ n) (sym (count-slots _) ∙ (ap length row ∙ length-map (row_of x) slot_of)) c.place_of-place.ensures.within in
     let at = c.place_of-place.ensures.place f (row_of x) s.slot_is (sym row) c.self.invariant.in_turn c.self.invariant.row_channels in
-    let y : Inside = record x { octets = c.move_up.new.items; aside = c.join.new.aside; arranged = x.arranged + c.length-count.result; slots = c.put_slot.new.slots; slots_arranged = x.slots_arranged + 1 } in
+    let y : Inside = record x { octets = c.move_up.new.items; aside = c.join.new.aside; arranged = x.arranged + c.length-count.result; slots = c.put_slot.new.slots; slots_arranged = x.slots_arranged + 1; newest = c.note_put.new.self } in
     let octets : all_octets y ≡ moved_up (x.arranged - c.length_from-moved.result) (x.arranged + c.length-count.result) c.length-count.result (all_octets x) =
     none-aside _ _ c.join.ensures.aside ∙ (c.move_up.ensures ∙ ap (moved_up (x.arranged - c.length_from-moved.result) (x.arranged + c.length-count.result) c.length-count.result) c.join.ensures.octets) in
     put_view x y f later p _ _ c.args.self.now c.self.view_is refl refl at

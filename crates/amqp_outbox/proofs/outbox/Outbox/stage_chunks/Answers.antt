@@ -1,4 +1,4 @@
-use Rattle.std.proofs.Common.{◌≡◌, ◌+◌, ◌++◌, length, map, refl, ap, sym, ◌∙◌, arith, eqb-true, List, length-append, vec_len}
+use Rattle.std.proofs.Common.{◌≡◌, ◌++◌, length, map, refl, ap, sym, ◌∙◌, arith, eqb-true, List, length-append, vec_len}
 use Rattle.amqp_frame.specs.Frame.{Frame}
 use Rattle.amqp_frame.specs.Splitting.{stream}
 use Rattle.amqp_model.specs.Wire.Contents.{pieces}

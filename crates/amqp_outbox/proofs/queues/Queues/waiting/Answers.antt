@@ -1,6 +1,6 @@
 use Rattle.std.proofs.Common.{List, length, sym, ap, ◌∙◌, arith}
 use Rattle.amqp_frame.specs.Splitting.{stream}
-use Rattle.amqp_outbox.specs.PiecesQueues.{on_channels, row_of}
+use Rattle.amqp_outbox.specs.PiecesQueues.{on_channels, row_of_queues}
 use Rattle.amqp_outbox.specs.declared.queues.Queue.{Queue}
 use Rattle.amqp_outbox.proofs.PiecesWaiting.{octets_on, waiting-zero, waiting-above, row-length}
 use Rattle.amqp_outbox.proofs.queues.Queues.waiting.Goals as goal
@@ -28,7 +28,7 @@ overflow_add-result c =
 pub returns-then-channel-eq0 : goal.returns-then-channel-eq0
 returns-then-channel-eq0 c last =
     let w = waiting-zero last c.args.self.now c.requires.sound in
-    let e = ap (λ n. octets_on n (row_of last c.args.self.now)) c.if-channel-eq0.true in
+    let e = ap (λ n. octets_on n (row_of_queues last c.args.self.now)) c.if-channel-eq0.true in
     let a = c.length_of.ensures in
     let b = c.length_of-then-channel-eq0.ensures in
     omega arith

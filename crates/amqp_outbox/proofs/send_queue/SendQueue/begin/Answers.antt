@@ -2,7 +2,7 @@ use Rattle.std.proofs.Common.{◌≡◌, ◌-◌, [], length, drop, refl, sym, a
 use Rattle.amqp_model.specs.Output.Arrangement.{last_after}
 use Rattle.amqp_outbox.specs.OutboxView.{Outgoing}
 use Rattle.amqp_outbox.specs.PiecesFields.{outgoing_in}
-use Rattle.amqp_outbox.specs.PiecesQueues.{row_of, frame_of}
+use Rattle.amqp_outbox.specs.PiecesQueues.{row_of_queues, frame_of}
 use Rattle.amqp_outbox.specs.PiecesWrites.{left_of, BeginsNext}
 use Rattle.amqp_outbox.specs.declared.send_queue.SendQueue.TheInside.{Inside}
 use Rattle.amqp_outbox.proofs.PiecesWrites.{output, frame-begun, frame-written, none-begun, nothing-left, some-octets}
@@ -34,12 +34,12 @@ returns-then-octets-len c =
     let n = c.last_after-self-inside.ensures in
     let m = c.len.ensures ∙ chunk.octets.ok.0 in
     let t = c.if-octets-len.true in
-    let next = frame-begun c.args.octets x.begun_on x.last f (row_of (last_after x.last f) c.pop.new.self) chunk.octets.items (sym c.in-Some.ensures.whole.encoded) some (omega arith) in
+    let next = frame-begun c.args.octets x.begun_on x.last f (row_of_queues (last_after x.last f) c.pop.new.self) chunk.octets.items (sym c.in-Some.ensures.whole.encoded) some (omega arith) in
     subst (λ (old : Outgoing). BeginsNext c.args.octets 0 old (outgoing_in y)) c.self.view_is
     (record {
       fewer = some;
       staged = refl;
-      left = ap (λ l. output (drop c.args.octets chunk.octets.items) chunk.slot.channel l (row_of l c.pop.new.self)) n ∙ (next ∙ sym (ap₂ (λ a r. left_of c.args.octets (output a x.begun_on x.last r)) none c.in-Some.ensures.row));
+      left = ap (λ l. output (drop c.args.octets chunk.octets.items) chunk.slot.channel l (row_of_queues l c.pop.new.self)) n ∙ (next ∙ sym (ap₂ (λ a r. left_of c.args.octets (output a x.begun_on x.last r)) none c.in-Some.ensures.row));
       ended = λ h. absurd (omega arith);
     })
 
@@ -55,14 +55,14 @@ returns c =
     let m : c.len.result ≡ length chunk.octets.items = c.len.ensures ∙ chunk.octets.ok.0 in
     let k : c.len-self-inside.result ≡ length chunk.octets.items = c.len-self-inside.ensures ∙ chunk.octets.ok.0 in
     let t = c.if-octets-len.false in
-    let later = row_of (last_after x.last f) c.pop.new.self in
+    let later = row_of_queues (last_after x.last f) c.pop.new.self in
     let next = frame-written c.args.octets x.begun_on x.last f later chunk.octets.items (sym c.in-Some.ensures.whole.encoded) some (omega arith) in
     let more = some-octets f chunk.octets.items (sym c.in-Some.ensures.whole.encoded) in
     subst (λ (old : Outgoing). BeginsNext c.args.octets (c.args.octets - c.len-self-inside.result) old (outgoing_in y)) c.self.view_is
     (record {
       fewer = omega arith;
       staged = refl;
-      left = rw k (ap (λ l. left_of (c.args.octets - length chunk.octets.items) (output (drop (length chunk.octets.items) chunk.octets.items) chunk.slot.channel l (row_of l c.pop.new.self))) n
+      left = rw k (ap (λ l. left_of (c.args.octets - length chunk.octets.items) (output (drop (length chunk.octets.items) chunk.octets.items) chunk.slot.channel l (row_of_queues l c.pop.new.self))) n
           ∙ (next ∙ sym (ap₂ (λ a r. left_of c.args.octets (output a x.begun_on x.last r)) none c.in-Some.ensures.row)));
       ended = λ h. rw k (nothing-left (length chunk.octets.items) chunk.octets.items (omega arith));
     })
