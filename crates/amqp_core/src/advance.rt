@@ -171,7 +171,9 @@ impl Endpoint {
             return Err(CoreFault::Failed);
         }
         if self.awaits_header() {
-            return self.hear_lent(piece);
+            // Bound first, so that it has a place of its own in memory: what is answered in place stays in registers.
+            let answer = self.hear_lent(piece);
+            return answer;
         }
         self.read_lent(piece, heard)
     }

@@ -8,6 +8,7 @@ mod hear;
 mod lend;
 mod receive;
 mod reply;
+mod rules;
 
 pub(crate) use crate::connection::reply::put_owed;
 use crate::settings::Settings;

@@ -217,9 +217,9 @@ pub(crate) struct Settings {
     pub(crate) max_body: u64,
     pub(crate) heartbeat: u16,
     pub(crate) gated: bool,
-    pub(crate) hello: Hello,
     /// The end lends what it takes, and keeps of a content under way only how far it has come.
     pub(crate) lends: bool,
+    pub(crate) hello: Hello,
 }
 
 impl Settings {

@@ -270,7 +270,9 @@ impl Connection {
             ≡ blames_frame (code_found result) (lent frame.entry) (tally_view tally.old) }
     {
         let Some(agreed) = self.agreed_on(frame.channel) else {
-            return self.receive_own_lent(outbox, frame, reading, tally, heard);
+            // Bound first, as in `Endpoint::advance`.
+            let answer = self.receive_own_lent(outbox, frame, reading, tally, heard);
+            return answer;
         };
         let verdict = self.judge_on(agreed, frame.channel, reading);
         let Ok(()) = self.carry_out_on_lent(outbox, frame.channel, reading, verdict, heard) else {

@@ -38,8 +38,8 @@ returns-clause-over c = λ over. absurd (true≢false (sym (c.if-is_failed.ensur
 pub returns-then-awaits_header-clause-within : goal.returns-then-awaits_header-clause-within
 returns-then-awaits_header-clause-within c =
     let old = c.args.self.now in
-    step_count c.hear_lent.result c.hear_lent.new.self.splitter.given (λ n. n ≤ length c.args.piece.now)
-    (lent_within (role_at old) (config_view old.connection.settings) _ (endpoint_view old) c.args.piece.now _ _ (λ n. n ≤ length c.args.piece.now) c.hear_lent.ensures.lent
+    step_count c.hear_lent-answer.result c.hear_lent-answer.new.self.splitter.given (λ n. n ≤ length c.args.piece.now)
+    (lent_within (role_at old) (config_view old.connection.settings) _ (endpoint_view old) c.args.piece.now _ _ (λ n. n ≤ length c.args.piece.now) c.hear_lent-answer.ensures.lent
     (c.cut_changes_nothing.ensures.within (role_at old) (config_view old.connection.settings) (endpoint_view old) c.args.piece.now))
 
 pub returns-clause-within : goal.returns-clause-within
@@ -53,8 +53,8 @@ pub returns-then-awaits_header-clause-progress : goal.returns-then-awaits_header
 returns-then-awaits_header-clause-progress c =
     let old = c.args.self.now in
     let running : (connection_end old.connection).phase ≢ Failed = λ failed. true≢false (sym (c.if-is_failed.ensures.takes refl (c.if-is_closed.ensures.not refl)) ∙ ap takes_octets failed) in
-    step_some c.hear_lent.result c.hear_lent.new.self.splitter.given c.args.piece.now
-    (lent_some (role_at old) (config_view old.connection.settings) _ (endpoint_view old) c.args.piece.now _ _ c.hear_lent.ensures.lent
+    step_some c.hear_lent-answer.result c.hear_lent-answer.new.self.splitter.given c.args.piece.now
+    (lent_some (role_at old) (config_view old.connection.settings) _ (endpoint_view old) c.args.piece.now _ _ c.hear_lent-answer.ensures.lent
     (c.cut_changes_nothing.ensures.progress (role_at old) (config_view old.connection.settings) (endpoint_view old) c.args.piece.now (c.if-is_closed.ensures.not refl) running))
 
 pub returns-clause-progress : goal.returns-clause-progress

@@ -2,7 +2,7 @@ use Rattle.std.proofs.Common.{rules, ◌≡◌, false, min, ap, ◌∙◌}
 use Rattle.amqp_method.specs.MethodRefView.{lent_call}
 use Rattle.amqp_model.specs.History.Negotiation.{smaller, tunes_too_small}
 use Rattle.amqp_core.proofs.VerdictLemmas.{settled_rules}
-use Rattle.amqp_core.proofs.connection.receive.judge_tune.Goals as goal
+use Rattle.amqp_core.proofs.connection.rules.judge_tune.Goals as goal
 
 pub returns : goal.returns
 returns c =

@@ -1,5 +1,5 @@
 use Rattle.std.proofs.Common.{rules, ◌≡◌}
-use Rattle.amqp_core.proofs.connection.receive.judge_handshake.Goals as goal
+use Rattle.amqp_core.proofs.connection.rules.judge_handshake.Goals as goal
 
 pub returns-else-number-ne0-clause-rules : goal.returns-else-number-ne0-clause-rules
 returns-else-number-ne0-clause-rules c =

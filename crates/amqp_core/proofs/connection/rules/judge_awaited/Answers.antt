@@ -1,4 +1,4 @@
-use Rattle.amqp_core.proofs.connection.receive.judge_awaited.Goals as goal
+use Rattle.amqp_core.proofs.connection.rules.judge_awaited.Goals as goal
 
 pub returns-in-AwaitsStart : goal.returns-in-AwaitsStart
 returns-in-AwaitsStart c = rw c.in-AwaitsStart.is c.judge_start.ensures

@@ -1,5 +1,5 @@
 use Rattle.amqp_model.specs.End.Channels.{Free}
-use Rattle.amqp_core.proofs.connection.receive.judge_zero.Goals as goal
+use Rattle.amqp_core.proofs.connection.rules.judge_zero.Goals as goal
 
 pub returns-in-Method-clause-rules : goal.returns-in-Method-clause-rules
 returns-in-Method-clause-rules c = rw c.in-Method.is c.judge_connection.ensures

@@ -4,7 +4,7 @@ use Rattle.amqp_model.specs.Wire.Methods.{number_at}
 use Rattle.amqp_model.specs.History.Negotiation.{agreed_in}
 use Rattle.amqp_core.specs.Connection.Handshakes.{within}
 use Rattle.amqp_core.proofs.VerdictLemmas.{past_rules, within_rules}
-use Rattle.amqp_core.proofs.connection.receive.judge_tune_ok.Goals as goal
+use Rattle.amqp_core.proofs.connection.rules.judge_tune_ok.Goals as goal
 
 pub returns-then-not-is_within : goal.returns-then-not-is_within
 returns-then-not-is_within c =

@@ -1,6 +1,6 @@
 use Rattle.amqp_method.specs.MethodRefView.{lent_call}
 use Rattle.amqp_core.proofs.VerdictLemmas.{open_asked_rules, open_rules}
-use Rattle.amqp_core.proofs.connection.receive.judge_open.Goals as goal
+use Rattle.amqp_core.proofs.connection.rules.judge_open.Goals as goal
 
 pub returns-then-settings : goal.returns-then-settings
 returns-then-settings c =

@@ -1,5 +1,5 @@
 use Rattle.std.proofs.Common.{rules, ◌≡◌}
-use Rattle.amqp_core.proofs.connection.receive.judge_leaving.Goals as goal
+use Rattle.amqp_core.proofs.connection.rules.judge_leaving.Goals as goal
 
 pub returns-in-Method-clause-rules : goal.returns-in-Method-clause-rules
 returns-in-Method-clause-rules c =

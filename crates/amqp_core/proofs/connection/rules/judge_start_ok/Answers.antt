@@ -1,6 +1,6 @@
 use Rattle.amqp_method.specs.MethodRefView.{lent_call}
 use Rattle.amqp_core.proofs.VerdictLemmas.{login_asked_rules, start_ok_rules}
-use Rattle.amqp_core.proofs.connection.receive.judge_start_ok.Goals as goal
+use Rattle.amqp_core.proofs.connection.rules.judge_start_ok.Goals as goal
 
 pub returns-then-settings : goal.returns-then-settings
 returns-then-settings c =
