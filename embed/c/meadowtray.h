@@ -5,9 +5,8 @@
  *
  *   - A pointer is null, or points to what its type says, and a length says how many octets there are.
  *   - A structure that a call writes overlaps nothing else that the call is given.
- *   - One call at a time for a handle. Different handles may be used by different threads at once. A splitter may go
- *     from one thread to another, in the order that a lock or the start of a thread gives. An end stays in the thread
- *     that opened it: that it may go to another isn't proved.
+ *   - One call at a time for a handle. Different handles may be used by different threads at once, and a handle may go
+ *     from one thread to another, in the order that a lock or the start of a thread gives.
  *   - A handle isn't copied: of two copies one is closed, and the other points to memory that was freed.
  *   - A handle's octets are 0 before it is opened (MT_SPLITTER_INIT and its like), and only this library writes them.
  *

@@ -115,3 +115,6 @@ impl EndSlot {
         Ok(())
     }
 }
+
+// What it holds may go to another thread.
+unsafe impl Send for EndSlot {}

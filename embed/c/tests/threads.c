@@ -1,4 +1,4 @@
-/* Two threads, each with two splitters of its own, and one splitter that goes from a thread to another. */
+/* Two threads, each with two splitters of its own; and a splitter and an end that go from a thread to another. */
 #include "check.h"
 #include "meadowtray.h"
 
@@ -36,8 +36,23 @@ static void *go_on(void *splitter)
 	return NULL;
 }
 
+/* The rest of the protocol header, in a thread that didn't open the server: connection.start is its answer. */
+static void *serve_on(void *server)
+{
+	mt_event event;
+	mt_octets output;
+
+	CHECK(mt_end_feed(server, (const uint8_t *)"P\0\0\x9\x1", 5, &event) == MT_OK && event.taken == 5);
+	CHECK(mt_end_output(server, &output) == MT_OK && output.length > 8 && output.at[0] == MT_METHOD);
+	CHECK(mt_end_close(server) == MT_OK);
+	return NULL;
+}
+
 int main(void)
 {
+	mt_server_settings settings;
+	mt_end server = MT_END_INIT;
+	mt_event event;
 	pthread_t threads[2];
 	unsigned long found[2] = {0, 0};
 	mt_splitter splitter = MT_SPLITTER_INIT;
@@ -50,6 +65,11 @@ int main(void)
 	CHECK(mt_splitter_open(&splitter, 4096) == MT_OK);
 	CHECK(mt_splitter_feed(&splitter, HEARTBEAT, 3, &frame) == MT_OK);
 	CHECK(pthread_create(&threads[0], NULL, go_on, &splitter) == 0 && pthread_join(threads[0], NULL) == 0);
+	mt_server_defaults(&settings);
+	CHECK(mt_end_open_server(&server, &settings) == MT_OK);
+	CHECK(mt_end_feed(&server, (const uint8_t *)"AMQ", 3, &event) == MT_OK && event.taken == 3);
+	CHECK(pthread_create(&threads[0], NULL, serve_on, &server) == 0 && pthread_join(threads[0], NULL) == 0);
+	CHECK(mt_end_close(&server) == MT_NOT_OPEN);
 	printf("threads: %lu checks\n", checked);
 	return 0;
 }

@@ -265,10 +265,13 @@ fn given(octets: &[u8]) -> sys::Octets {
     }
 }
 
-/// A handle that is closed when it is dropped. It stays in its thread: that it may go to another one isn't proved of an
-/// end yet.
+/// A handle that is closed when it is dropped.
 #[derive(Debug)]
 struct Handle(sys::Handle);
+
+// SAFETY: the handle's value may go to another thread: this is proved of it, and a `&mut` gives it to one call at a
+// time.
+unsafe impl Send for Handle {}
 
 impl Drop for Handle {
     fn drop(&mut self) {

@@ -328,3 +328,18 @@ fn a_content_that_is_lent() {
         assert_eq!(settle(&mut client, &mut server, size).len(), 2);
     }
 }
+
+#[test]
+fn ends_go_to_other_threads() {
+    let (mut client, mut server) = connected(4096);
+    client.close(200, b"bye").unwrap();
+    let asked = client.output().to_vec();
+    let answered = std::thread::spawn(move || {
+        server.feed(&asked).unwrap();
+        server.output().to_vec()
+    })
+    .join()
+    .unwrap();
+    let told = std::thread::spawn(move || client.feed(&answered).unwrap().event.map(seen)).join().unwrap();
+    assert_eq!(told, Some(Seen::ConnectionClosed(None)));
+}
