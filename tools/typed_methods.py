@@ -155,6 +155,8 @@ KINDS = {
 }
 # the type of a field that lies in a payload, where it isn't the type that is lent
 IN_PAYLOAD = {"short-string": "&'a [u8]", "table": "TableRef<'a>"}
+# what reads a method that is known to be one without arguments, in place of what asks whether it is
+BARE_READS = {"from_method": "of_method", "from_view": "of_view"}
 # the functions that take an array of so many arguments apart
 COUNTS = {1: "one", 2: "two", 3: "three", 4: "four", 5: "five", 7: "seven", 8: "eight"}
 PLAIN = {"bit", "octet", "short", "long", "long-long"}
@@ -401,13 +403,24 @@ def from_method_of(method):
         ]
         return lines + ["    }", ""]
     names = [field.name for field in method.fields]
-    pattern = names[0] if len(names) == 1 else f"({', '.join(names)})"
-    lines.append(f"        let args = own_args(method, Kind::{method.kind})?;")
-    one = f"        let {pattern} = {COUNTS[len(names)]}(args);"
-    lines += [one] if len(one) <= 100 else [f"        let {pattern} =", f"            {COUNTS[len(names)]}(args);"]
+    # a `match`, and no `?`: that would call the conversion of errors, and be proved with it
+    lines += [f"        match own_args(method, Kind::{method.kind}) {{", "            Ok(args) => {"]
+    lines += taken_apart("                ", names, COUNTS[len(names)])
     body = [f"{field.name}: {field.helper}({field.name})" for field in method.fields]
-    lines += literal("        ", method.name, body, ")", "Ok(")
+    lines += literal("                ", method.name, body, ")", "Ok(")
+    lines += ["            }", "            Err(method) => Err(method),", "        }"]
     return lines + ["    }", ""]
+
+
+def taken_apart(indent, names, function):
+    """A line that names the arguments of an array, or several, where one is too short."""
+    pattern = names[0] if len(names) == 1 else f"({', '.join(names)})"
+    start = f"{indent}let {pattern} = {function}("
+    if len(start) + len("args);") <= 100:
+        return [f"{start}args);"]
+    if len(start) <= 100:
+        return [start, f"{indent}    args,", f"{indent});"]
+    return [f"{indent}let ("] + [f"{indent}    {name}," for name in names] + [f"{indent}) = {function}(args);"]
 
 
 def from_ref_of(method):
@@ -598,7 +611,7 @@ def any_of_class(name, of_class):
         lines += [""] + view_of_class("AnyMethod", "any_call", "'_", of_class)
     lines += ["}", "", "/// Prints what the struct prints.", "impl fmt::Debug for AnyMethod {"]
     lines.append("    fn fmt<W: fmt::Write>(&self, f: &mut fmt::Formatter<W>) -> fmt::Result {")
-    lines += each_method("AnyMethod", "fmt::Debug::fmt(method, f)", of_class) + ["    }", "}", ""]
+    lines += shown_of_class(of_class) + ["    }", "}", ""]
     return lines if plain else lines + any_view_of_class(of_class)
 
 
@@ -615,6 +628,13 @@ def each_method(enum, value, of_class):
     for method in of_class:
         lines += arm(f"{enum}::{method.name}(method)", value, "            ")
     return lines + ["        }"]
+
+
+def shown_of_class(of_class):
+    """A body that prints the struct. One without arguments prints its kind, so where all are, no arms are needed."""
+    if all(method.is_bare() for method in of_class):
+        return ['        write!(f, "{}", self.kind())']
+    return each_method("AnyMethod", "fmt::Debug::fmt(method, f)", of_class)
 
 
 def kind_of_class(enum, receiver, said, of_class):
@@ -636,7 +656,8 @@ def read_of_class(enum, read, structs):
     """A body that reads the method as the struct of its kind."""
     lines = ["    {", "        match method.kind() {"]
     for method, struct in structs:
-        lines += arm(f"Kind::{method.kind}", f"{enum}::{method.name}({struct}::{read}(method).unwrap())", "            ")
+        known = f"{struct}::{BARE_READS[read]}(method)" if method.is_bare() else f"{struct}::{read}(method).unwrap()"
+        lines += arm(f"Kind::{method.kind}", f"{enum}::{method.name}({known})", "            ")
     return lines + ["            _ => unreachable!(),", "        }", "    }"]
 
 
@@ -753,16 +774,23 @@ def steps(fields, suffix):
     return names
 
 
+def steps_in_ok(fields):
+    """The same within the arm of `Ok`: the second of a helper has the arm's name, and those behind it a number too."""
+    names = {"": "", "-2": "-in-Ok"}
+    return [(helper, names.get(number, f"-in-Ok-{int(number[1:] or 0) - 1}")) for helper, number in steps(fields, "")]
+
+
 def lent_answer(method, struct, function, suffix, test, fit, said):
     """Of which kind each argument is, and that what is read by place is all that the method says."""
     calls = steps(method.fields, suffix)
-    same = f"(c.{test}.0 c.if-not-{test.split('.')[0]}.false)"
+    asked = test.split(".")[0]
+    same = f"(c.{test}.0 c.if-not-{asked}.false)"
     word = said[1:].split(" ")[0]
     lines = [
         "use Rattle.std.proofs.Common.{refl}",
         f"use Rattle.amqp_method.specs.{'MethodView' if word == 'method_view' else 'MethodRefView'}.{{{word}}}",
         f"use Rattle.amqp_method.specs.declared.kinds.Kind.TheVariants.{{{method.kind}}}",
-        f"use Rattle.amqp_typed.proofs.Places.{{at_place, call_{len(method.fields)}}}",
+        f"use Rattle.amqp_typed.proofs.Places.{{at_place, call_{len(method.fields)}, when_yes, when_no}}",
         f"use Rattle.amqp_typed.proofs.{method.class_name}.{struct}.{function}.Goals as goal",
     ]
     for place, (helper, number) in enumerate(calls):
@@ -771,6 +799,10 @@ def lent_answer(method, struct, function, suffix, test, fit, said):
     facts = " ".join(f"c.{helper}{number}.ensures" for helper, number in calls)
     lines += ["", "pub returns-clause-args : goal.returns-clause-args", "returns-clause-args c ="]
     lines += [f"    call_{len(method.fields)} _ _ {same} {fit} refl", f"    {facts}"]
+    # found by a search too, which takes longer
+    for goal, lemma, answer in ((f"then-not-{asked}-", "when_no", "true"), ("", "when_yes", "false")):
+        goal = f"returns-{goal}clause-when"
+        lines += ["", f"pub {goal} : goal.{goal}", f"{goal} c = {lemma} c.{test} c.if-not-{asked}.{answer}"]
     return "\n".join(lines) + "\n"
 
 
@@ -790,7 +822,7 @@ def owned_answer(method):
     """Of which kind each argument is, and that what is taken apart is all that the method says."""
     count = len(method.fields)
     taken = f"c.{COUNTS[count]}-{method.fields[0].name}.ensures"
-    names = steps(method.fields, "")
+    names = steps_in_ok(method.fields)
     lines = []
     if count == 1:
         lines.append(f"use Rattle.amqp_typed.proofs.Places.{{kind_1, kinds_in, made_1}}")
@@ -798,14 +830,14 @@ def owned_answer(method):
         lines.append(f"use Rattle.amqp_typed.proofs.Places.{{kinds_{count}, kinds_in, made_{count}}}")
     lines.append(f"use Rattle.amqp_method.specs.declared.kinds.Kind.TheVariants.{{{method.kind}}}")
     lines.append(f"use Rattle.amqp_typed.proofs.{method.class_name}.{method.name}.from_method.Goals as goal")
-    kinds = f"kinds_in {method.kind} c.in_ok-args.args _ c.in_ok-args.ensures.fit {taken}"
+    kinds = f"kinds_in {method.kind} c.in-Ok.args _ c.in-Ok.ensures.fit {taken}"
     for place, (helper, number) in enumerate(names):
         goal = f"{helper}-requires{number}"
         term = f"kind_1 ({kinds})" if count == 1 else f"(kinds_{count} ({kinds})).{place}"
         lines += ["", f"pub {goal} : goal.{goal}", f"{goal} c = {term}"]
     facts = " ".join(f"c.{helper}{number}.ensures" for helper, number in names)
-    lines += ["", "pub returns-clause-args : goal.returns-clause-args", "returns-clause-args c ="]
-    lines.append(f"    made_{count} _ {method.kind} c.in_ok-args.args c.in_ok-args.ensures.args {taken}")
+    lines += ["", "pub returns-in-Ok-clause-args : goal.returns-in-Ok-clause-args", "returns-in-Ok-clause-args c ="]
+    lines.append(f"    made_{count} _ {method.kind} c.in-Ok.args c.in-Ok.ensures.args {taken}")
     lines.append(f"    {facts}")
     return "\n".join(lines) + "\n"
 
@@ -831,8 +863,17 @@ def any_answer(name, enum, read, of_class):
         "use Rattle.std.proofs.Common.{sym, ◌∙◌}",
         f"use Rattle.amqp_typed.proofs.{name}.{enum}.{read}.Goals as goal",
     ]
-    for place, method in enumerate(of_class):
-        arm, step = f"in-{method.kind}", f"-in-{method.kind}" if place else ""
+    seen = set()
+    for method in of_class:
+        word = BARE_READS[read] if method.is_bare() else read
+        arm, step = f"in-{method.kind}", f"-in-{method.kind}" if word in seen else ""
+        seen.add(word)
+        if method.is_bare():
+            goal = f"{word}-requires{step}"
+            lines += ["", f"pub {goal} : goal.{goal}", f"{goal} c = sym c.kind.ensures ∙ c.{arm}.is"]
+            goal = f"returns-{arm}"
+            lines += ["", f"pub {goal} : goal.{goal}", f"{goal} c = c.{word}{step}.ensures"]
+            continue
         goal = f"unwrap-requires{step}"
         lines += ["", f"pub {goal} : goal.{goal}"]
         lines.append(f"{goal} c = c.{read}{step}.ensures.when.1 (sym c.kind.ensures ∙ c.{arm}.is)")

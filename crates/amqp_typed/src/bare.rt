@@ -55,6 +55,22 @@ impl<K: BareKind> Bare<K> {
         }
     }
 
+    /// What a method of this kind says.
+    pub(crate) fn of_method(method: Method) -> Bare<K>
+        requires { (method_view method).kind ≡ K.KIND }
+        ensures { call K.KIND [] ≡ method_view method }
+    {
+        Bare::from_method(method).unwrap()
+    }
+
+    /// What a method of this kind says.
+    pub(crate) fn of_view(method: MethodRef<'_>) -> Bare<K>
+        requires { (lent_call method).kind ≡ K.KIND }
+        ensures { call K.KIND [] ≡ lent_call method.entry }
+    {
+        Bare::from_view(method).unwrap()
+    }
+
     /// What the method says, if it is this one.
     pub fn from_ref(method: &Method) -> Option<Bare<K>>
         ensures args { IfSome result (λ m. call K.KIND [] ≡ method_view method.now) }

@@ -169,17 +169,23 @@ impl Consume {
         ensures when { IsOk result ↔ ((method_view method).kind ≡ BasicConsume) }
         ensures same { IfErr result (λ m. method_view m ≡ method_view method) }
     {
-        let args = own_args(method, Kind::BasicConsume)?;
-        let (queue, consumer_tag, no_local, no_ack, exclusive, no_wait, arguments) = seven(args);
-        Ok(Consume {
-            queue: short_str(queue),
-            consumer_tag: short_str(consumer_tag),
-            no_local: bit(no_local),
-            no_ack: bit(no_ack),
-            exclusive: bit(exclusive),
-            no_wait: bit(no_wait),
-            arguments: table(arguments),
-        })
+        match own_args(method, Kind::BasicConsume) {
+            Ok(args) => {
+                let (queue, consumer_tag, no_local, no_ack, exclusive, no_wait, arguments) = seven(
+                    args,
+                );
+                Ok(Consume {
+                    queue: short_str(queue),
+                    consumer_tag: short_str(consumer_tag),
+                    no_local: bit(no_local),
+                    no_ack: bit(no_ack),
+                    exclusive: bit(exclusive),
+                    no_wait: bit(no_wait),
+                    arguments: table(arguments),
+                })
+            }
+            Err(method) => Err(method),
+        }
     }
 }
 
@@ -280,11 +286,15 @@ impl ConsumeOk {
         ensures when { IsOk result ↔ ((method_view method).kind ≡ BasicConsumeOk) }
         ensures same { IfErr result (λ m. method_view m ≡ method_view method) }
     {
-        let args = own_args(method, Kind::BasicConsumeOk)?;
-        let consumer_tag = one(args);
-        Ok(ConsumeOk {
-            consumer_tag: short_str(consumer_tag),
-        })
+        match own_args(method, Kind::BasicConsumeOk) {
+            Ok(args) => {
+                let consumer_tag = one(args);
+                Ok(ConsumeOk {
+                    consumer_tag: short_str(consumer_tag),
+                })
+            }
+            Err(method) => Err(method),
+        }
     }
 }
 
@@ -367,12 +377,16 @@ impl Cancel {
         ensures when { IsOk result ↔ ((method_view method).kind ≡ BasicCancel) }
         ensures same { IfErr result (λ m. method_view m ≡ method_view method) }
     {
-        let args = own_args(method, Kind::BasicCancel)?;
-        let (consumer_tag, no_wait) = two(args);
-        Ok(Cancel {
-            consumer_tag: short_str(consumer_tag),
-            no_wait: bit(no_wait),
-        })
+        match own_args(method, Kind::BasicCancel) {
+            Ok(args) => {
+                let (consumer_tag, no_wait) = two(args);
+                Ok(Cancel {
+                    consumer_tag: short_str(consumer_tag),
+                    no_wait: bit(no_wait),
+                })
+            }
+            Err(method) => Err(method),
+        }
     }
 }
 
@@ -453,11 +467,15 @@ impl CancelOk {
         ensures when { IsOk result ↔ ((method_view method).kind ≡ BasicCancelOk) }
         ensures same { IfErr result (λ m. method_view m ≡ method_view method) }
     {
-        let args = own_args(method, Kind::BasicCancelOk)?;
-        let consumer_tag = one(args);
-        Ok(CancelOk {
-            consumer_tag: short_str(consumer_tag),
-        })
+        match own_args(method, Kind::BasicCancelOk) {
+            Ok(args) => {
+                let consumer_tag = one(args);
+                Ok(CancelOk {
+                    consumer_tag: short_str(consumer_tag),
+                })
+            }
+            Err(method) => Err(method),
+        }
     }
 }
 
@@ -564,14 +582,18 @@ impl Publish {
         ensures when { IsOk result ↔ ((method_view method).kind ≡ BasicPublish) }
         ensures same { IfErr result (λ m. method_view m ≡ method_view method) }
     {
-        let args = own_args(method, Kind::BasicPublish)?;
-        let (exchange, routing_key, mandatory, immediate) = four(args);
-        Ok(Publish {
-            exchange: short_str(exchange),
-            routing_key: short_str(routing_key),
-            mandatory: bit(mandatory),
-            immediate: bit(immediate),
-        })
+        match own_args(method, Kind::BasicPublish) {
+            Ok(args) => {
+                let (exchange, routing_key, mandatory, immediate) = four(args);
+                Ok(Publish {
+                    exchange: short_str(exchange),
+                    routing_key: short_str(routing_key),
+                    mandatory: bit(mandatory),
+                    immediate: bit(immediate),
+                })
+            }
+            Err(method) => Err(method),
+        }
     }
 }
 
@@ -693,14 +715,18 @@ impl Return {
         ensures when { IsOk result ↔ ((method_view method).kind ≡ BasicReturn) }
         ensures same { IfErr result (λ m. method_view m ≡ method_view method) }
     {
-        let args = own_args(method, Kind::BasicReturn)?;
-        let (reply_code, reply_text, exchange, routing_key) = four(args);
-        Ok(Return {
-            reply_code: short(reply_code),
-            reply_text: short_str(reply_text),
-            exchange: short_str(exchange),
-            routing_key: short_str(routing_key),
-        })
+        match own_args(method, Kind::BasicReturn) {
+            Ok(args) => {
+                let (reply_code, reply_text, exchange, routing_key) = four(args);
+                Ok(Return {
+                    reply_code: short(reply_code),
+                    reply_text: short_str(reply_text),
+                    exchange: short_str(exchange),
+                    routing_key: short_str(routing_key),
+                })
+            }
+            Err(method) => Err(method),
+        }
     }
 }
 
@@ -827,15 +853,19 @@ impl Deliver {
         ensures when { IsOk result ↔ ((method_view method).kind ≡ BasicDeliver) }
         ensures same { IfErr result (λ m. method_view m ≡ method_view method) }
     {
-        let args = own_args(method, Kind::BasicDeliver)?;
-        let (consumer_tag, delivery_tag, redelivered, exchange, routing_key) = five(args);
-        Ok(Deliver {
-            consumer_tag: short_str(consumer_tag),
-            delivery_tag: long_long(delivery_tag),
-            redelivered: bit(redelivered),
-            exchange: short_str(exchange),
-            routing_key: short_str(routing_key),
-        })
+        match own_args(method, Kind::BasicDeliver) {
+            Ok(args) => {
+                let (consumer_tag, delivery_tag, redelivered, exchange, routing_key) = five(args);
+                Ok(Deliver {
+                    consumer_tag: short_str(consumer_tag),
+                    delivery_tag: long_long(delivery_tag),
+                    redelivered: bit(redelivered),
+                    exchange: short_str(exchange),
+                    routing_key: short_str(routing_key),
+                })
+            }
+            Err(method) => Err(method),
+        }
     }
 }
 
@@ -933,12 +963,16 @@ impl Get {
         ensures when { IsOk result ↔ ((method_view method).kind ≡ BasicGet) }
         ensures same { IfErr result (λ m. method_view m ≡ method_view method) }
     {
-        let args = own_args(method, Kind::BasicGet)?;
-        let (queue, no_ack) = two(args);
-        Ok(Get {
-            queue: short_str(queue),
-            no_ack: bit(no_ack),
-        })
+        match own_args(method, Kind::BasicGet) {
+            Ok(args) => {
+                let (queue, no_ack) = two(args);
+                Ok(Get {
+                    queue: short_str(queue),
+                    no_ack: bit(no_ack),
+                })
+            }
+            Err(method) => Err(method),
+        }
     }
 }
 
@@ -1058,15 +1092,19 @@ impl GetOk {
         ensures when { IsOk result ↔ ((method_view method).kind ≡ BasicGetOk) }
         ensures same { IfErr result (λ m. method_view m ≡ method_view method) }
     {
-        let args = own_args(method, Kind::BasicGetOk)?;
-        let (delivery_tag, redelivered, exchange, routing_key, message_count) = five(args);
-        Ok(GetOk {
-            delivery_tag: long_long(delivery_tag),
-            redelivered: bit(redelivered),
-            exchange: short_str(exchange),
-            routing_key: short_str(routing_key),
-            message_count: long(message_count),
-        })
+        match own_args(method, Kind::BasicGetOk) {
+            Ok(args) => {
+                let (delivery_tag, redelivered, exchange, routing_key, message_count) = five(args);
+                Ok(GetOk {
+                    delivery_tag: long_long(delivery_tag),
+                    redelivered: bit(redelivered),
+                    exchange: short_str(exchange),
+                    routing_key: short_str(routing_key),
+                    message_count: long(message_count),
+                })
+            }
+            Err(method) => Err(method),
+        }
     }
 }
 
@@ -1538,7 +1576,7 @@ impl AnyMethod {
     {
         match method.kind() {
             Kind::BasicQos => AnyMethod::Qos(Qos::from_method(method).unwrap()),
-            Kind::BasicQosOk => AnyMethod::QosOk(QosOk::from_method(method).unwrap()),
+            Kind::BasicQosOk => AnyMethod::QosOk(QosOk::of_method(method)),
             Kind::BasicConsume => AnyMethod::Consume(Consume::from_method(method).unwrap()),
             Kind::BasicConsumeOk => AnyMethod::ConsumeOk(ConsumeOk::from_method(method).unwrap()),
             Kind::BasicCancel => AnyMethod::Cancel(Cancel::from_method(method).unwrap()),
@@ -1548,14 +1586,14 @@ impl AnyMethod {
             Kind::BasicDeliver => AnyMethod::Deliver(Deliver::from_method(method).unwrap()),
             Kind::BasicGet => AnyMethod::Get(Get::from_method(method).unwrap()),
             Kind::BasicGetOk => AnyMethod::GetOk(GetOk::from_method(method).unwrap()),
-            Kind::BasicGetEmpty => AnyMethod::GetEmpty(GetEmpty::from_method(method).unwrap()),
+            Kind::BasicGetEmpty => AnyMethod::GetEmpty(GetEmpty::of_method(method)),
             Kind::BasicAck => AnyMethod::Ack(Ack::from_method(method).unwrap()),
             Kind::BasicReject => AnyMethod::Reject(Reject::from_method(method).unwrap()),
             Kind::BasicRecoverAsync => {
                 AnyMethod::RecoverAsync(RecoverAsync::from_method(method).unwrap())
             }
             Kind::BasicRecover => AnyMethod::Recover(Recover::from_method(method).unwrap()),
-            Kind::BasicRecoverOk => AnyMethod::RecoverOk(RecoverOk::from_method(method).unwrap()),
+            Kind::BasicRecoverOk => AnyMethod::RecoverOk(RecoverOk::of_method(method)),
             Kind::BasicNack => AnyMethod::Nack(Nack::from_method(method).unwrap()),
             _ => unreachable!(),
         }
@@ -1670,7 +1708,7 @@ impl<'a> AnyMethodView<'a> {
     {
         match method.kind() {
             Kind::BasicQos => AnyMethodView::Qos(Qos::from_view(method).unwrap()),
-            Kind::BasicQosOk => AnyMethodView::QosOk(QosOk::from_view(method).unwrap()),
+            Kind::BasicQosOk => AnyMethodView::QosOk(QosOk::of_view(method)),
             Kind::BasicConsume => AnyMethodView::Consume(ConsumeView::from_view(method).unwrap()),
             Kind::BasicConsumeOk => {
                 AnyMethodView::ConsumeOk(ConsumeOkView::from_view(method).unwrap())
@@ -1684,14 +1722,14 @@ impl<'a> AnyMethodView<'a> {
             Kind::BasicDeliver => AnyMethodView::Deliver(DeliverView::from_view(method).unwrap()),
             Kind::BasicGet => AnyMethodView::Get(GetView::from_view(method).unwrap()),
             Kind::BasicGetOk => AnyMethodView::GetOk(GetOkView::from_view(method).unwrap()),
-            Kind::BasicGetEmpty => AnyMethodView::GetEmpty(GetEmpty::from_view(method).unwrap()),
+            Kind::BasicGetEmpty => AnyMethodView::GetEmpty(GetEmpty::of_view(method)),
             Kind::BasicAck => AnyMethodView::Ack(Ack::from_view(method).unwrap()),
             Kind::BasicReject => AnyMethodView::Reject(Reject::from_view(method).unwrap()),
             Kind::BasicRecoverAsync => {
                 AnyMethodView::RecoverAsync(RecoverAsync::from_view(method).unwrap())
             }
             Kind::BasicRecover => AnyMethodView::Recover(Recover::from_view(method).unwrap()),
-            Kind::BasicRecoverOk => AnyMethodView::RecoverOk(RecoverOk::from_view(method).unwrap()),
+            Kind::BasicRecoverOk => AnyMethodView::RecoverOk(RecoverOk::of_view(method)),
             Kind::BasicNack => AnyMethodView::Nack(Nack::from_view(method).unwrap()),
             _ => unreachable!(),
         }

@@ -194,14 +194,18 @@ impl Close {
         ensures when { IsOk result ↔ ((method_view method).kind ≡ ChannelClose) }
         ensures same { IfErr result (λ m. method_view m ≡ method_view method) }
     {
-        let args = own_args(method, Kind::ChannelClose)?;
-        let (reply_code, reply_text, class_id, method_id) = four(args);
-        Ok(Close {
-            reply_code: short(reply_code),
-            reply_text: short_str(reply_text),
-            class_id: short(class_id),
-            method_id: short(method_id),
-        })
+        match own_args(method, Kind::ChannelClose) {
+            Ok(args) => {
+                let (reply_code, reply_text, class_id, method_id) = four(args);
+                Ok(Close {
+                    reply_code: short(reply_code),
+                    reply_text: short_str(reply_text),
+                    class_id: short(class_id),
+                    method_id: short(method_id),
+                })
+            }
+            Err(method) => Err(method),
+        }
     }
 }
 
@@ -293,12 +297,12 @@ impl AnyMethod {
         ensures { any_call result ≡ method_view method }
     {
         match method.kind() {
-            Kind::ChannelOpen => AnyMethod::Open(Open::from_method(method).unwrap()),
-            Kind::ChannelOpenOk => AnyMethod::OpenOk(OpenOk::from_method(method).unwrap()),
+            Kind::ChannelOpen => AnyMethod::Open(Open::of_method(method)),
+            Kind::ChannelOpenOk => AnyMethod::OpenOk(OpenOk::of_method(method)),
             Kind::ChannelFlow => AnyMethod::Flow(Flow::from_method(method).unwrap()),
             Kind::ChannelFlowOk => AnyMethod::FlowOk(FlowOk::from_method(method).unwrap()),
             Kind::ChannelClose => AnyMethod::Close(Close::from_method(method).unwrap()),
-            Kind::ChannelCloseOk => AnyMethod::CloseOk(CloseOk::from_method(method).unwrap()),
+            Kind::ChannelCloseOk => AnyMethod::CloseOk(CloseOk::of_method(method)),
             _ => unreachable!(),
         }
     }
@@ -363,12 +367,12 @@ impl<'a> AnyMethodView<'a> {
         ensures { any_view_call result ≡ lent_call method.entry }
     {
         match method.kind() {
-            Kind::ChannelOpen => AnyMethodView::Open(Open::from_view(method).unwrap()),
-            Kind::ChannelOpenOk => AnyMethodView::OpenOk(OpenOk::from_view(method).unwrap()),
+            Kind::ChannelOpen => AnyMethodView::Open(Open::of_view(method)),
+            Kind::ChannelOpenOk => AnyMethodView::OpenOk(OpenOk::of_view(method)),
             Kind::ChannelFlow => AnyMethodView::Flow(Flow::from_view(method).unwrap()),
             Kind::ChannelFlowOk => AnyMethodView::FlowOk(FlowOk::from_view(method).unwrap()),
             Kind::ChannelClose => AnyMethodView::Close(CloseView::from_view(method).unwrap()),
-            Kind::ChannelCloseOk => AnyMethodView::CloseOk(CloseOk::from_view(method).unwrap()),
+            Kind::ChannelCloseOk => AnyMethodView::CloseOk(CloseOk::of_view(method)),
             _ => unreachable!(),
         }
     }

@@ -104,7 +104,7 @@ impl AnyMethod {
     {
         match method.kind() {
             Kind::ConfirmSelect => AnyMethod::Select(Select::from_method(method).unwrap()),
-            Kind::ConfirmSelectOk => AnyMethod::SelectOk(SelectOk::from_method(method).unwrap()),
+            Kind::ConfirmSelectOk => AnyMethod::SelectOk(SelectOk::of_method(method)),
             _ => unreachable!(),
         }
     }
@@ -126,7 +126,7 @@ impl AnyMethod {
     {
         match method.kind() {
             Kind::ConfirmSelect => AnyMethod::Select(Select::from_view(method).unwrap()),
-            Kind::ConfirmSelectOk => AnyMethod::SelectOk(SelectOk::from_view(method).unwrap()),
+            Kind::ConfirmSelectOk => AnyMethod::SelectOk(SelectOk::of_view(method)),
             _ => unreachable!(),
         }
     }

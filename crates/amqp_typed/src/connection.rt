@@ -73,15 +73,21 @@ impl Start {
         ensures when { IsOk result ↔ ((method_view method).kind ≡ ConnectionStart) }
         ensures same { IfErr result (λ m. method_view m ≡ method_view method) }
     {
-        let args = own_args(method, Kind::ConnectionStart)?;
-        let (version_major, version_minor, server_properties, mechanisms, locales) = five(args);
-        Ok(Start {
-            version_major: octet(version_major),
-            version_minor: octet(version_minor),
-            server_properties: table(server_properties),
-            mechanisms: long_str(mechanisms),
-            locales: long_str(locales),
-        })
+        match own_args(method, Kind::ConnectionStart) {
+            Ok(args) => {
+                let (version_major, version_minor, server_properties, mechanisms, locales) = five(
+                    args,
+                );
+                Ok(Start {
+                    version_major: octet(version_major),
+                    version_minor: octet(version_minor),
+                    server_properties: table(server_properties),
+                    mechanisms: long_str(mechanisms),
+                    locales: long_str(locales),
+                })
+            }
+            Err(method) => Err(method),
+        }
     }
 }
 
@@ -191,14 +197,18 @@ impl StartOk {
         ensures when { IsOk result ↔ ((method_view method).kind ≡ ConnectionStartOk) }
         ensures same { IfErr result (λ m. method_view m ≡ method_view method) }
     {
-        let args = own_args(method, Kind::ConnectionStartOk)?;
-        let (client_properties, mechanism, response, locale) = four(args);
-        Ok(StartOk {
-            client_properties: table(client_properties),
-            mechanism: short_str(mechanism),
-            response: long_str(response),
-            locale: short_str(locale),
-        })
+        match own_args(method, Kind::ConnectionStartOk) {
+            Ok(args) => {
+                let (client_properties, mechanism, response, locale) = four(args);
+                Ok(StartOk {
+                    client_properties: table(client_properties),
+                    mechanism: short_str(mechanism),
+                    response: long_str(response),
+                    locale: short_str(locale),
+                })
+            }
+            Err(method) => Err(method),
+        }
     }
 }
 
@@ -288,11 +298,15 @@ impl Secure {
         ensures when { IsOk result ↔ ((method_view method).kind ≡ ConnectionSecure) }
         ensures same { IfErr result (λ m. method_view m ≡ method_view method) }
     {
-        let args = own_args(method, Kind::ConnectionSecure)?;
-        let challenge = one(args);
-        Ok(Secure {
-            challenge: long_str(challenge),
-        })
+        match own_args(method, Kind::ConnectionSecure) {
+            Ok(args) => {
+                let challenge = one(args);
+                Ok(Secure {
+                    challenge: long_str(challenge),
+                })
+            }
+            Err(method) => Err(method),
+        }
     }
 }
 
@@ -371,11 +385,15 @@ impl SecureOk {
         ensures when { IsOk result ↔ ((method_view method).kind ≡ ConnectionSecureOk) }
         ensures same { IfErr result (λ m. method_view m ≡ method_view method) }
     {
-        let args = own_args(method, Kind::ConnectionSecureOk)?;
-        let response = one(args);
-        Ok(SecureOk {
-            response: long_str(response),
-        })
+        match own_args(method, Kind::ConnectionSecureOk) {
+            Ok(args) => {
+                let response = one(args);
+                Ok(SecureOk {
+                    response: long_str(response),
+                })
+            }
+            Err(method) => Err(method),
+        }
     }
 }
 
@@ -616,11 +634,15 @@ impl Open {
         ensures when { IsOk result ↔ ((method_view method).kind ≡ ConnectionOpen) }
         ensures same { IfErr result (λ m. method_view m ≡ method_view method) }
     {
-        let args = own_args(method, Kind::ConnectionOpen)?;
-        let virtual_host = one(args);
-        Ok(Open {
-            virtual_host: short_str(virtual_host),
-        })
+        match own_args(method, Kind::ConnectionOpen) {
+            Ok(args) => {
+                let virtual_host = one(args);
+                Ok(Open {
+                    virtual_host: short_str(virtual_host),
+                })
+            }
+            Err(method) => Err(method),
+        }
     }
 }
 
@@ -716,14 +738,18 @@ impl Close {
         ensures when { IsOk result ↔ ((method_view method).kind ≡ ConnectionClose) }
         ensures same { IfErr result (λ m. method_view m ≡ method_view method) }
     {
-        let args = own_args(method, Kind::ConnectionClose)?;
-        let (reply_code, reply_text, class_id, method_id) = four(args);
-        Ok(Close {
-            reply_code: short(reply_code),
-            reply_text: short_str(reply_text),
-            class_id: short(class_id),
-            method_id: short(method_id),
-        })
+        match own_args(method, Kind::ConnectionClose) {
+            Ok(args) => {
+                let (reply_code, reply_text, class_id, method_id) = four(args);
+                Ok(Close {
+                    reply_code: short(reply_code),
+                    reply_text: short_str(reply_text),
+                    class_id: short(class_id),
+                    method_id: short(method_id),
+                })
+            }
+            Err(method) => Err(method),
+        }
     }
 }
 
@@ -811,11 +837,15 @@ impl Blocked {
         ensures when { IsOk result ↔ ((method_view method).kind ≡ ConnectionBlocked) }
         ensures same { IfErr result (λ m. method_view m ≡ method_view method) }
     {
-        let args = own_args(method, Kind::ConnectionBlocked)?;
-        let reason = one(args);
-        Ok(Blocked {
-            reason: short_str(reason),
-        })
+        match own_args(method, Kind::ConnectionBlocked) {
+            Ok(args) => {
+                let reason = one(args);
+                Ok(Blocked {
+                    reason: short_str(reason),
+                })
+            }
+            Err(method) => Err(method),
+        }
     }
 }
 
@@ -914,13 +944,11 @@ impl AnyMethod {
             Kind::ConnectionTune => AnyMethod::Tune(Tune::from_method(method).unwrap()),
             Kind::ConnectionTuneOk => AnyMethod::TuneOk(TuneOk::from_method(method).unwrap()),
             Kind::ConnectionOpen => AnyMethod::Open(Open::from_method(method).unwrap()),
-            Kind::ConnectionOpenOk => AnyMethod::OpenOk(OpenOk::from_method(method).unwrap()),
+            Kind::ConnectionOpenOk => AnyMethod::OpenOk(OpenOk::of_method(method)),
             Kind::ConnectionClose => AnyMethod::Close(Close::from_method(method).unwrap()),
-            Kind::ConnectionCloseOk => AnyMethod::CloseOk(CloseOk::from_method(method).unwrap()),
+            Kind::ConnectionCloseOk => AnyMethod::CloseOk(CloseOk::of_method(method)),
             Kind::ConnectionBlocked => AnyMethod::Blocked(Blocked::from_method(method).unwrap()),
-            Kind::ConnectionUnblocked => {
-                AnyMethod::Unblocked(Unblocked::from_method(method).unwrap())
-            }
+            Kind::ConnectionUnblocked => AnyMethod::Unblocked(Unblocked::of_method(method)),
             _ => unreachable!(),
         }
     }
@@ -1020,15 +1048,13 @@ impl<'a> AnyMethodView<'a> {
             Kind::ConnectionTune => AnyMethodView::Tune(Tune::from_view(method).unwrap()),
             Kind::ConnectionTuneOk => AnyMethodView::TuneOk(TuneOk::from_view(method).unwrap()),
             Kind::ConnectionOpen => AnyMethodView::Open(OpenView::from_view(method).unwrap()),
-            Kind::ConnectionOpenOk => AnyMethodView::OpenOk(OpenOk::from_view(method).unwrap()),
+            Kind::ConnectionOpenOk => AnyMethodView::OpenOk(OpenOk::of_view(method)),
             Kind::ConnectionClose => AnyMethodView::Close(CloseView::from_view(method).unwrap()),
-            Kind::ConnectionCloseOk => AnyMethodView::CloseOk(CloseOk::from_view(method).unwrap()),
+            Kind::ConnectionCloseOk => AnyMethodView::CloseOk(CloseOk::of_view(method)),
             Kind::ConnectionBlocked => {
                 AnyMethodView::Blocked(BlockedView::from_view(method).unwrap())
             }
-            Kind::ConnectionUnblocked => {
-                AnyMethodView::Unblocked(Unblocked::from_view(method).unwrap())
-            }
+            Kind::ConnectionUnblocked => AnyMethodView::Unblocked(Unblocked::of_view(method)),
             _ => unreachable!(),
         }
     }

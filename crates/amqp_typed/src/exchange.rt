@@ -86,19 +86,31 @@ impl Declare {
         ensures when { IsOk result ↔ ((method_view method).kind ≡ ExchangeDeclare) }
         ensures same { IfErr result (λ m. method_view m ≡ method_view method) }
     {
-        let args = own_args(method, Kind::ExchangeDeclare)?;
-        let (exchange, type_name, passive, durable, auto_delete, internal, no_wait, arguments) =
-            eight(args);
-        Ok(Declare {
-            exchange: short_str(exchange),
-            type_name: short_str(type_name),
-            passive: bit(passive),
-            durable: bit(durable),
-            auto_delete: bit(auto_delete),
-            internal: bit(internal),
-            no_wait: bit(no_wait),
-            arguments: table(arguments),
-        })
+        match own_args(method, Kind::ExchangeDeclare) {
+            Ok(args) => {
+                let (
+                    exchange,
+                    type_name,
+                    passive,
+                    durable,
+                    auto_delete,
+                    internal,
+                    no_wait,
+                    arguments,
+                ) = eight(args);
+                Ok(Declare {
+                    exchange: short_str(exchange),
+                    type_name: short_str(type_name),
+                    passive: bit(passive),
+                    durable: bit(durable),
+                    auto_delete: bit(auto_delete),
+                    internal: bit(internal),
+                    no_wait: bit(no_wait),
+                    arguments: table(arguments),
+                })
+            }
+            Err(method) => Err(method),
+        }
     }
 }
 
@@ -219,13 +231,17 @@ impl Delete {
         ensures when { IsOk result ↔ ((method_view method).kind ≡ ExchangeDelete) }
         ensures same { IfErr result (λ m. method_view m ≡ method_view method) }
     {
-        let args = own_args(method, Kind::ExchangeDelete)?;
-        let (exchange, if_unused, no_wait) = three(args);
-        Ok(Delete {
-            exchange: short_str(exchange),
-            if_unused: bit(if_unused),
-            no_wait: bit(no_wait),
-        })
+        match own_args(method, Kind::ExchangeDelete) {
+            Ok(args) => {
+                let (exchange, if_unused, no_wait) = three(args);
+                Ok(Delete {
+                    exchange: short_str(exchange),
+                    if_unused: bit(if_unused),
+                    no_wait: bit(no_wait),
+                })
+            }
+            Err(method) => Err(method),
+        }
     }
 }
 
@@ -339,15 +355,19 @@ impl Bind {
         ensures when { IsOk result ↔ ((method_view method).kind ≡ ExchangeBind) }
         ensures same { IfErr result (λ m. method_view m ≡ method_view method) }
     {
-        let args = own_args(method, Kind::ExchangeBind)?;
-        let (destination, source, routing_key, no_wait, arguments) = five(args);
-        Ok(Bind {
-            destination: short_str(destination),
-            source: short_str(source),
-            routing_key: short_str(routing_key),
-            no_wait: bit(no_wait),
-            arguments: table(arguments),
-        })
+        match own_args(method, Kind::ExchangeBind) {
+            Ok(args) => {
+                let (destination, source, routing_key, no_wait, arguments) = five(args);
+                Ok(Bind {
+                    destination: short_str(destination),
+                    source: short_str(source),
+                    routing_key: short_str(routing_key),
+                    no_wait: bit(no_wait),
+                    arguments: table(arguments),
+                })
+            }
+            Err(method) => Err(method),
+        }
     }
 }
 
@@ -469,15 +489,19 @@ impl Unbind {
         ensures when { IsOk result ↔ ((method_view method).kind ≡ ExchangeUnbind) }
         ensures same { IfErr result (λ m. method_view m ≡ method_view method) }
     {
-        let args = own_args(method, Kind::ExchangeUnbind)?;
-        let (destination, source, routing_key, no_wait, arguments) = five(args);
-        Ok(Unbind {
-            destination: short_str(destination),
-            source: short_str(source),
-            routing_key: short_str(routing_key),
-            no_wait: bit(no_wait),
-            arguments: table(arguments),
-        })
+        match own_args(method, Kind::ExchangeUnbind) {
+            Ok(args) => {
+                let (destination, source, routing_key, no_wait, arguments) = five(args);
+                Ok(Unbind {
+                    destination: short_str(destination),
+                    source: short_str(source),
+                    routing_key: short_str(routing_key),
+                    no_wait: bit(no_wait),
+                    arguments: table(arguments),
+                })
+            }
+            Err(method) => Err(method),
+        }
     }
 }
 
@@ -578,15 +602,13 @@ impl AnyMethod {
     {
         match method.kind() {
             Kind::ExchangeDeclare => AnyMethod::Declare(Declare::from_method(method).unwrap()),
-            Kind::ExchangeDeclareOk => {
-                AnyMethod::DeclareOk(DeclareOk::from_method(method).unwrap())
-            }
+            Kind::ExchangeDeclareOk => AnyMethod::DeclareOk(DeclareOk::of_method(method)),
             Kind::ExchangeDelete => AnyMethod::Delete(Delete::from_method(method).unwrap()),
-            Kind::ExchangeDeleteOk => AnyMethod::DeleteOk(DeleteOk::from_method(method).unwrap()),
+            Kind::ExchangeDeleteOk => AnyMethod::DeleteOk(DeleteOk::of_method(method)),
             Kind::ExchangeBind => AnyMethod::Bind(Bind::from_method(method).unwrap()),
-            Kind::ExchangeBindOk => AnyMethod::BindOk(BindOk::from_method(method).unwrap()),
+            Kind::ExchangeBindOk => AnyMethod::BindOk(BindOk::of_method(method)),
             Kind::ExchangeUnbind => AnyMethod::Unbind(Unbind::from_method(method).unwrap()),
-            Kind::ExchangeUnbindOk => AnyMethod::UnbindOk(UnbindOk::from_method(method).unwrap()),
+            Kind::ExchangeUnbindOk => AnyMethod::UnbindOk(UnbindOk::of_method(method)),
             _ => unreachable!(),
         }
     }
@@ -662,15 +684,13 @@ impl<'a> AnyMethodView<'a> {
             Kind::ExchangeDeclare => {
                 AnyMethodView::Declare(DeclareView::from_view(method).unwrap())
             }
-            Kind::ExchangeDeclareOk => {
-                AnyMethodView::DeclareOk(DeclareOk::from_view(method).unwrap())
-            }
+            Kind::ExchangeDeclareOk => AnyMethodView::DeclareOk(DeclareOk::of_view(method)),
             Kind::ExchangeDelete => AnyMethodView::Delete(DeleteView::from_view(method).unwrap()),
-            Kind::ExchangeDeleteOk => AnyMethodView::DeleteOk(DeleteOk::from_view(method).unwrap()),
+            Kind::ExchangeDeleteOk => AnyMethodView::DeleteOk(DeleteOk::of_view(method)),
             Kind::ExchangeBind => AnyMethodView::Bind(BindView::from_view(method).unwrap()),
-            Kind::ExchangeBindOk => AnyMethodView::BindOk(BindOk::from_view(method).unwrap()),
+            Kind::ExchangeBindOk => AnyMethodView::BindOk(BindOk::of_view(method)),
             Kind::ExchangeUnbind => AnyMethodView::Unbind(UnbindView::from_view(method).unwrap()),
-            Kind::ExchangeUnbindOk => AnyMethodView::UnbindOk(UnbindOk::from_view(method).unwrap()),
+            Kind::ExchangeUnbindOk => AnyMethodView::UnbindOk(UnbindOk::of_view(method)),
             _ => unreachable!(),
         }
     }

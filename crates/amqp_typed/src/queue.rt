@@ -82,17 +82,23 @@ impl Declare {
         ensures when { IsOk result ↔ ((method_view method).kind ≡ QueueDeclare) }
         ensures same { IfErr result (λ m. method_view m ≡ method_view method) }
     {
-        let args = own_args(method, Kind::QueueDeclare)?;
-        let (queue, passive, durable, exclusive, auto_delete, no_wait, arguments) = seven(args);
-        Ok(Declare {
-            queue: short_str(queue),
-            passive: bit(passive),
-            durable: bit(durable),
-            exclusive: bit(exclusive),
-            auto_delete: bit(auto_delete),
-            no_wait: bit(no_wait),
-            arguments: table(arguments),
-        })
+        match own_args(method, Kind::QueueDeclare) {
+            Ok(args) => {
+                let (queue, passive, durable, exclusive, auto_delete, no_wait, arguments) = seven(
+                    args,
+                );
+                Ok(Declare {
+                    queue: short_str(queue),
+                    passive: bit(passive),
+                    durable: bit(durable),
+                    exclusive: bit(exclusive),
+                    auto_delete: bit(auto_delete),
+                    no_wait: bit(no_wait),
+                    arguments: table(arguments),
+                })
+            }
+            Err(method) => Err(method),
+        }
     }
 }
 
@@ -205,13 +211,17 @@ impl DeclareOk {
         ensures when { IsOk result ↔ ((method_view method).kind ≡ QueueDeclareOk) }
         ensures same { IfErr result (λ m. method_view m ≡ method_view method) }
     {
-        let args = own_args(method, Kind::QueueDeclareOk)?;
-        let (queue, message_count, consumer_count) = three(args);
-        Ok(DeclareOk {
-            queue: short_str(queue),
-            message_count: long(message_count),
-            consumer_count: long(consumer_count),
-        })
+        match own_args(method, Kind::QueueDeclareOk) {
+            Ok(args) => {
+                let (queue, message_count, consumer_count) = three(args);
+                Ok(DeclareOk {
+                    queue: short_str(queue),
+                    message_count: long(message_count),
+                    consumer_count: long(consumer_count),
+                })
+            }
+            Err(method) => Err(method),
+        }
     }
 }
 
@@ -315,15 +325,19 @@ impl Bind {
         ensures when { IsOk result ↔ ((method_view method).kind ≡ QueueBind) }
         ensures same { IfErr result (λ m. method_view m ≡ method_view method) }
     {
-        let args = own_args(method, Kind::QueueBind)?;
-        let (queue, exchange, routing_key, no_wait, arguments) = five(args);
-        Ok(Bind {
-            queue: short_str(queue),
-            exchange: short_str(exchange),
-            routing_key: short_str(routing_key),
-            no_wait: bit(no_wait),
-            arguments: table(arguments),
-        })
+        match own_args(method, Kind::QueueBind) {
+            Ok(args) => {
+                let (queue, exchange, routing_key, no_wait, arguments) = five(args);
+                Ok(Bind {
+                    queue: short_str(queue),
+                    exchange: short_str(exchange),
+                    routing_key: short_str(routing_key),
+                    no_wait: bit(no_wait),
+                    arguments: table(arguments),
+                })
+            }
+            Err(method) => Err(method),
+        }
     }
 }
 
@@ -434,14 +448,18 @@ impl Unbind {
         ensures when { IsOk result ↔ ((method_view method).kind ≡ QueueUnbind) }
         ensures same { IfErr result (λ m. method_view m ≡ method_view method) }
     {
-        let args = own_args(method, Kind::QueueUnbind)?;
-        let (queue, exchange, routing_key, arguments) = four(args);
-        Ok(Unbind {
-            queue: short_str(queue),
-            exchange: short_str(exchange),
-            routing_key: short_str(routing_key),
-            arguments: table(arguments),
-        })
+        match own_args(method, Kind::QueueUnbind) {
+            Ok(args) => {
+                let (queue, exchange, routing_key, arguments) = four(args);
+                Ok(Unbind {
+                    queue: short_str(queue),
+                    exchange: short_str(exchange),
+                    routing_key: short_str(routing_key),
+                    arguments: table(arguments),
+                })
+            }
+            Err(method) => Err(method),
+        }
     }
 }
 
@@ -538,12 +556,16 @@ impl Purge {
         ensures when { IsOk result ↔ ((method_view method).kind ≡ QueuePurge) }
         ensures same { IfErr result (λ m. method_view m ≡ method_view method) }
     {
-        let args = own_args(method, Kind::QueuePurge)?;
-        let (queue, no_wait) = two(args);
-        Ok(Purge {
-            queue: short_str(queue),
-            no_wait: bit(no_wait),
-        })
+        match own_args(method, Kind::QueuePurge) {
+            Ok(args) => {
+                let (queue, no_wait) = two(args);
+                Ok(Purge {
+                    queue: short_str(queue),
+                    no_wait: bit(no_wait),
+                })
+            }
+            Err(method) => Err(method),
+        }
     }
 }
 
@@ -701,14 +723,18 @@ impl Delete {
         ensures when { IsOk result ↔ ((method_view method).kind ≡ QueueDelete) }
         ensures same { IfErr result (λ m. method_view m ≡ method_view method) }
     {
-        let args = own_args(method, Kind::QueueDelete)?;
-        let (queue, if_unused, if_empty, no_wait) = four(args);
-        Ok(Delete {
-            queue: short_str(queue),
-            if_unused: bit(if_unused),
-            if_empty: bit(if_empty),
-            no_wait: bit(no_wait),
-        })
+        match own_args(method, Kind::QueueDelete) {
+            Ok(args) => {
+                let (queue, if_unused, if_empty, no_wait) = four(args);
+                Ok(Delete {
+                    queue: short_str(queue),
+                    if_unused: bit(if_unused),
+                    if_empty: bit(if_empty),
+                    no_wait: bit(no_wait),
+                })
+            }
+            Err(method) => Err(method),
+        }
     }
 }
 
@@ -868,9 +894,9 @@ impl AnyMethod {
             Kind::QueueDeclare => AnyMethod::Declare(Declare::from_method(method).unwrap()),
             Kind::QueueDeclareOk => AnyMethod::DeclareOk(DeclareOk::from_method(method).unwrap()),
             Kind::QueueBind => AnyMethod::Bind(Bind::from_method(method).unwrap()),
-            Kind::QueueBindOk => AnyMethod::BindOk(BindOk::from_method(method).unwrap()),
+            Kind::QueueBindOk => AnyMethod::BindOk(BindOk::of_method(method)),
             Kind::QueueUnbind => AnyMethod::Unbind(Unbind::from_method(method).unwrap()),
-            Kind::QueueUnbindOk => AnyMethod::UnbindOk(UnbindOk::from_method(method).unwrap()),
+            Kind::QueueUnbindOk => AnyMethod::UnbindOk(UnbindOk::of_method(method)),
             Kind::QueuePurge => AnyMethod::Purge(Purge::from_method(method).unwrap()),
             Kind::QueuePurgeOk => AnyMethod::PurgeOk(PurgeOk::from_method(method).unwrap()),
             Kind::QueueDelete => AnyMethod::Delete(Delete::from_method(method).unwrap()),
@@ -960,9 +986,9 @@ impl<'a> AnyMethodView<'a> {
                 AnyMethodView::DeclareOk(DeclareOkView::from_view(method).unwrap())
             }
             Kind::QueueBind => AnyMethodView::Bind(BindView::from_view(method).unwrap()),
-            Kind::QueueBindOk => AnyMethodView::BindOk(BindOk::from_view(method).unwrap()),
+            Kind::QueueBindOk => AnyMethodView::BindOk(BindOk::of_view(method)),
             Kind::QueueUnbind => AnyMethodView::Unbind(UnbindView::from_view(method).unwrap()),
-            Kind::QueueUnbindOk => AnyMethodView::UnbindOk(UnbindOk::from_view(method).unwrap()),
+            Kind::QueueUnbindOk => AnyMethodView::UnbindOk(UnbindOk::of_view(method)),
             Kind::QueuePurge => AnyMethodView::Purge(PurgeView::from_view(method).unwrap()),
             Kind::QueuePurgeOk => AnyMethodView::PurgeOk(PurgeOk::from_view(method).unwrap()),
             Kind::QueueDelete => AnyMethodView::Delete(DeleteView::from_view(method).unwrap()),

@@ -61,12 +61,12 @@ impl AnyMethod {
         ensures { any_call result ≡ method_view method }
     {
         match method.kind() {
-            Kind::TxSelect => AnyMethod::Select(Select::from_method(method).unwrap()),
-            Kind::TxSelectOk => AnyMethod::SelectOk(SelectOk::from_method(method).unwrap()),
-            Kind::TxCommit => AnyMethod::Commit(Commit::from_method(method).unwrap()),
-            Kind::TxCommitOk => AnyMethod::CommitOk(CommitOk::from_method(method).unwrap()),
-            Kind::TxRollback => AnyMethod::Rollback(Rollback::from_method(method).unwrap()),
-            Kind::TxRollbackOk => AnyMethod::RollbackOk(RollbackOk::from_method(method).unwrap()),
+            Kind::TxSelect => AnyMethod::Select(Select::of_method(method)),
+            Kind::TxSelectOk => AnyMethod::SelectOk(SelectOk::of_method(method)),
+            Kind::TxCommit => AnyMethod::Commit(Commit::of_method(method)),
+            Kind::TxCommitOk => AnyMethod::CommitOk(CommitOk::of_method(method)),
+            Kind::TxRollback => AnyMethod::Rollback(Rollback::of_method(method)),
+            Kind::TxRollbackOk => AnyMethod::RollbackOk(RollbackOk::of_method(method)),
             _ => unreachable!(),
         }
     }
@@ -91,12 +91,12 @@ impl AnyMethod {
         ensures { any_call result ≡ lent_call method.entry }
     {
         match method.kind() {
-            Kind::TxSelect => AnyMethod::Select(Select::from_view(method).unwrap()),
-            Kind::TxSelectOk => AnyMethod::SelectOk(SelectOk::from_view(method).unwrap()),
-            Kind::TxCommit => AnyMethod::Commit(Commit::from_view(method).unwrap()),
-            Kind::TxCommitOk => AnyMethod::CommitOk(CommitOk::from_view(method).unwrap()),
-            Kind::TxRollback => AnyMethod::Rollback(Rollback::from_view(method).unwrap()),
-            Kind::TxRollbackOk => AnyMethod::RollbackOk(RollbackOk::from_view(method).unwrap()),
+            Kind::TxSelect => AnyMethod::Select(Select::of_view(method)),
+            Kind::TxSelectOk => AnyMethod::SelectOk(SelectOk::of_view(method)),
+            Kind::TxCommit => AnyMethod::Commit(Commit::of_view(method)),
+            Kind::TxCommitOk => AnyMethod::CommitOk(CommitOk::of_view(method)),
+            Kind::TxRollback => AnyMethod::Rollback(Rollback::of_view(method)),
+            Kind::TxRollbackOk => AnyMethod::RollbackOk(RollbackOk::of_view(method)),
             _ => unreachable!(),
         }
     }
@@ -105,13 +105,6 @@ impl AnyMethod {
 /// Prints what the struct prints.
 impl fmt::Debug for AnyMethod {
     fn fmt<W: fmt::Write>(&self, f: &mut fmt::Formatter<W>) -> fmt::Result {
-        match self {
-            AnyMethod::Select(method) => fmt::Debug::fmt(method, f),
-            AnyMethod::SelectOk(method) => fmt::Debug::fmt(method, f),
-            AnyMethod::Commit(method) => fmt::Debug::fmt(method, f),
-            AnyMethod::CommitOk(method) => fmt::Debug::fmt(method, f),
-            AnyMethod::Rollback(method) => fmt::Debug::fmt(method, f),
-            AnyMethod::RollbackOk(method) => fmt::Debug::fmt(method, f),
-        }
+        write!(f, "{}", self.kind())
     }
 }

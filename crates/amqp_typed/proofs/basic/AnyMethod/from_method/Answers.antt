@@ -7,11 +7,11 @@ unwrap-requires c = c.from_method.ensures.when.1 (sym c.kind.ensures ∙ c.in-Ba
 pub returns-in-BasicQos : goal.returns-in-BasicQos
 returns-in-BasicQos c = rw c.unwrap.ensures at c.from_method.ensures.args
 
-pub unwrap-requires-in-BasicQosOk : goal.unwrap-requires-in-BasicQosOk
-unwrap-requires-in-BasicQosOk c = c.from_method-in-BasicQosOk.ensures.when.1 (sym c.kind.ensures ∙ c.in-BasicQosOk.is)
+pub of_method-requires : goal.of_method-requires
+of_method-requires c = sym c.kind.ensures ∙ c.in-BasicQosOk.is
 
 pub returns-in-BasicQosOk : goal.returns-in-BasicQosOk
-returns-in-BasicQosOk c = rw c.unwrap-in-BasicQosOk.ensures at c.from_method-in-BasicQosOk.ensures.args
+returns-in-BasicQosOk c = c.of_method.ensures
 
 pub unwrap-requires-in-BasicConsume : goal.unwrap-requires-in-BasicConsume
 unwrap-requires-in-BasicConsume c = c.from_method-in-BasicConsume.ensures.when.1 (sym c.kind.ensures ∙ c.in-BasicConsume.is)
@@ -67,11 +67,11 @@ unwrap-requires-in-BasicGetOk c = c.from_method-in-BasicGetOk.ensures.when.1 (sy
 pub returns-in-BasicGetOk : goal.returns-in-BasicGetOk
 returns-in-BasicGetOk c = rw c.unwrap-in-BasicGetOk.ensures at c.from_method-in-BasicGetOk.ensures.args
 
-pub unwrap-requires-in-BasicGetEmpty : goal.unwrap-requires-in-BasicGetEmpty
-unwrap-requires-in-BasicGetEmpty c = c.from_method-in-BasicGetEmpty.ensures.when.1 (sym c.kind.ensures ∙ c.in-BasicGetEmpty.is)
+pub of_method-requires-in-BasicGetEmpty : goal.of_method-requires-in-BasicGetEmpty
+of_method-requires-in-BasicGetEmpty c = sym c.kind.ensures ∙ c.in-BasicGetEmpty.is
 
 pub returns-in-BasicGetEmpty : goal.returns-in-BasicGetEmpty
-returns-in-BasicGetEmpty c = rw c.unwrap-in-BasicGetEmpty.ensures at c.from_method-in-BasicGetEmpty.ensures.args
+returns-in-BasicGetEmpty c = c.of_method-in-BasicGetEmpty.ensures
 
 pub unwrap-requires-in-BasicAck : goal.unwrap-requires-in-BasicAck
 unwrap-requires-in-BasicAck c = c.from_method-in-BasicAck.ensures.when.1 (sym c.kind.ensures ∙ c.in-BasicAck.is)
@@ -97,11 +97,11 @@ unwrap-requires-in-BasicRecover c = c.from_method-in-BasicRecover.ensures.when.1
 pub returns-in-BasicRecover : goal.returns-in-BasicRecover
 returns-in-BasicRecover c = rw c.unwrap-in-BasicRecover.ensures at c.from_method-in-BasicRecover.ensures.args
 
-pub unwrap-requires-in-BasicRecoverOk : goal.unwrap-requires-in-BasicRecoverOk
-unwrap-requires-in-BasicRecoverOk c = c.from_method-in-BasicRecoverOk.ensures.when.1 (sym c.kind.ensures ∙ c.in-BasicRecoverOk.is)
+pub of_method-requires-in-BasicRecoverOk : goal.of_method-requires-in-BasicRecoverOk
+of_method-requires-in-BasicRecoverOk c = sym c.kind.ensures ∙ c.in-BasicRecoverOk.is
 
 pub returns-in-BasicRecoverOk : goal.returns-in-BasicRecoverOk
-returns-in-BasicRecoverOk c = rw c.unwrap-in-BasicRecoverOk.ensures at c.from_method-in-BasicRecoverOk.ensures.args
+returns-in-BasicRecoverOk c = c.of_method-in-BasicRecoverOk.ensures
 
 pub unwrap-requires-in-BasicNack : goal.unwrap-requires-in-BasicNack
 unwrap-requires-in-BasicNack c = c.from_method-in-BasicNack.ensures.when.1 (sym c.kind.ensures ∙ c.in-BasicNack.is)

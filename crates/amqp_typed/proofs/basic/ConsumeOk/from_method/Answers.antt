@@ -3,9 +3,9 @@ use Rattle.amqp_method.specs.declared.kinds.Kind.TheVariants.{BasicConsumeOk}
 use Rattle.amqp_typed.proofs.basic.ConsumeOk.from_method.Goals as goal
 
 pub short_str-requires : goal.short_str-requires
-short_str-requires c = kind_1 (kinds_in BasicConsumeOk c.in_ok-args.args _ c.in_ok-args.ensures.fit c.one-consumer_tag.ensures)
+short_str-requires c = kind_1 (kinds_in BasicConsumeOk c.in-Ok.args _ c.in-Ok.ensures.fit c.one-consumer_tag.ensures)
 
-pub returns-clause-args : goal.returns-clause-args
-returns-clause-args c =
-    made_1 _ BasicConsumeOk c.in_ok-args.args c.in_ok-args.ensures.args c.one-consumer_tag.ensures
+pub returns-in-Ok-clause-args : goal.returns-in-Ok-clause-args
+returns-in-Ok-clause-args c =
+    made_1 _ BasicConsumeOk c.in-Ok.args c.in-Ok.ensures.args c.one-consumer_tag.ensures
     c.short_str.ensures

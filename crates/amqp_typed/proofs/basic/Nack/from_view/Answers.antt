@@ -1,7 +1,7 @@
 use Rattle.std.proofs.Common.{refl}
 use Rattle.amqp_method.specs.MethodRefView.{lent_call}
 use Rattle.amqp_method.specs.declared.kinds.Kind.TheVariants.{BasicNack}
-use Rattle.amqp_typed.proofs.Places.{at_place, call_3}
+use Rattle.amqp_typed.proofs.Places.{at_place, call_3, when_yes, when_no}
 use Rattle.amqp_typed.proofs.basic.Nack.from_view.Goals as goal
 
 pub long_long_in-requires : goal.long_long_in-requires
@@ -17,3 +17,9 @@ pub returns-clause-args : goal.returns-clause-args
 returns-clause-args c =
     call_3 _ _ (c.is_view_of.ensures.kind.0 c.if-not-is_view_of.false) c.is_view_of.ensures.fit refl
     c.long_long_in.ensures c.bit_in.ensures c.bit_in-2.ensures
+
+pub returns-then-not-is_view_of-clause-when : goal.returns-then-not-is_view_of-clause-when
+returns-then-not-is_view_of-clause-when c = when_no c.is_view_of.ensures.kind c.if-not-is_view_of.true
+
+pub returns-clause-when : goal.returns-clause-when
+returns-clause-when c = when_yes c.is_view_of.ensures.kind c.if-not-is_view_of.false

@@ -1,23 +1,23 @@
 use Rattle.std.proofs.Common.{sym, ◌∙◌}
 use Rattle.amqp_typed.proofs.channel.AnyMethodView.from_view.Goals as goal
 
-pub unwrap-requires : goal.unwrap-requires
-unwrap-requires c = c.from_view.ensures.when.1 (sym c.kind.ensures ∙ c.in-ChannelOpen.is)
+pub of_view-requires : goal.of_view-requires
+of_view-requires c = sym c.kind.ensures ∙ c.in-ChannelOpen.is
 
 pub returns-in-ChannelOpen : goal.returns-in-ChannelOpen
-returns-in-ChannelOpen c = rw c.unwrap.ensures at c.from_view.ensures.args
+returns-in-ChannelOpen c = c.of_view.ensures
 
-pub unwrap-requires-in-ChannelOpenOk : goal.unwrap-requires-in-ChannelOpenOk
-unwrap-requires-in-ChannelOpenOk c = c.from_view-in-ChannelOpenOk.ensures.when.1 (sym c.kind.ensures ∙ c.in-ChannelOpenOk.is)
+pub of_view-requires-in-ChannelOpenOk : goal.of_view-requires-in-ChannelOpenOk
+of_view-requires-in-ChannelOpenOk c = sym c.kind.ensures ∙ c.in-ChannelOpenOk.is
 
 pub returns-in-ChannelOpenOk : goal.returns-in-ChannelOpenOk
-returns-in-ChannelOpenOk c = rw c.unwrap-in-ChannelOpenOk.ensures at c.from_view-in-ChannelOpenOk.ensures.args
+returns-in-ChannelOpenOk c = c.of_view-in-ChannelOpenOk.ensures
 
-pub unwrap-requires-in-ChannelFlow : goal.unwrap-requires-in-ChannelFlow
-unwrap-requires-in-ChannelFlow c = c.from_view-in-ChannelFlow.ensures.when.1 (sym c.kind.ensures ∙ c.in-ChannelFlow.is)
+pub unwrap-requires : goal.unwrap-requires
+unwrap-requires c = c.from_view.ensures.when.1 (sym c.kind.ensures ∙ c.in-ChannelFlow.is)
 
 pub returns-in-ChannelFlow : goal.returns-in-ChannelFlow
-returns-in-ChannelFlow c = rw c.unwrap-in-ChannelFlow.ensures at c.from_view-in-ChannelFlow.ensures.args
+returns-in-ChannelFlow c = rw c.unwrap.ensures at c.from_view.ensures.args
 
 pub unwrap-requires-in-ChannelFlowOk : goal.unwrap-requires-in-ChannelFlowOk
 unwrap-requires-in-ChannelFlowOk c = c.from_view-in-ChannelFlowOk.ensures.when.1 (sym c.kind.ensures ∙ c.in-ChannelFlowOk.is)
@@ -31,8 +31,8 @@ unwrap-requires-in-ChannelClose c = c.from_view-in-ChannelClose.ensures.when.1 (
 pub returns-in-ChannelClose : goal.returns-in-ChannelClose
 returns-in-ChannelClose c = rw c.unwrap-in-ChannelClose.ensures at c.from_view-in-ChannelClose.ensures.args
 
-pub unwrap-requires-in-ChannelCloseOk : goal.unwrap-requires-in-ChannelCloseOk
-unwrap-requires-in-ChannelCloseOk c = c.from_view-in-ChannelCloseOk.ensures.when.1 (sym c.kind.ensures ∙ c.in-ChannelCloseOk.is)
+pub of_view-requires-in-ChannelCloseOk : goal.of_view-requires-in-ChannelCloseOk
+of_view-requires-in-ChannelCloseOk c = sym c.kind.ensures ∙ c.in-ChannelCloseOk.is
 
 pub returns-in-ChannelCloseOk : goal.returns-in-ChannelCloseOk
-returns-in-ChannelCloseOk c = rw c.unwrap-in-ChannelCloseOk.ensures at c.from_view-in-ChannelCloseOk.ensures.args
+returns-in-ChannelCloseOk c = c.of_view-in-ChannelCloseOk.ensures

@@ -7,8 +7,8 @@ unwrap-requires c = c.from_method.ensures.when.1 (sym c.kind.ensures ∙ c.in-Co
 pub returns-in-ConfirmSelect : goal.returns-in-ConfirmSelect
 returns-in-ConfirmSelect c = rw c.unwrap.ensures at c.from_method.ensures.args
 
-pub unwrap-requires-in-ConfirmSelectOk : goal.unwrap-requires-in-ConfirmSelectOk
-unwrap-requires-in-ConfirmSelectOk c = c.from_method-in-ConfirmSelectOk.ensures.when.1 (sym c.kind.ensures ∙ c.in-ConfirmSelectOk.is)
+pub of_method-requires : goal.of_method-requires
+of_method-requires c = sym c.kind.ensures ∙ c.in-ConfirmSelectOk.is
 
 pub returns-in-ConfirmSelectOk : goal.returns-in-ConfirmSelectOk
-returns-in-ConfirmSelectOk c = rw c.unwrap-in-ConfirmSelectOk.ensures at c.from_method-in-ConfirmSelectOk.ensures.args
+returns-in-ConfirmSelectOk c = c.of_method.ensures

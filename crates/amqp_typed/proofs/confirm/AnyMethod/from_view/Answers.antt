@@ -7,8 +7,8 @@ unwrap-requires c = c.from_view.ensures.when.1 (sym c.kind.ensures ∙ c.in-Conf
 pub returns-in-ConfirmSelect : goal.returns-in-ConfirmSelect
 returns-in-ConfirmSelect c = rw c.unwrap.ensures at c.from_view.ensures.args
 
-pub unwrap-requires-in-ConfirmSelectOk : goal.unwrap-requires-in-ConfirmSelectOk
-unwrap-requires-in-ConfirmSelectOk c = c.from_view-in-ConfirmSelectOk.ensures.when.1 (sym c.kind.ensures ∙ c.in-ConfirmSelectOk.is)
+pub of_view-requires : goal.of_view-requires
+of_view-requires c = sym c.kind.ensures ∙ c.in-ConfirmSelectOk.is
 
 pub returns-in-ConfirmSelectOk : goal.returns-in-ConfirmSelectOk
-returns-in-ConfirmSelectOk c = rw c.unwrap-in-ConfirmSelectOk.ensures at c.from_view-in-ConfirmSelectOk.ensures.args
+returns-in-ConfirmSelectOk c = c.of_view.ensures

@@ -43,11 +43,11 @@ unwrap-requires-in-ConnectionOpen c = c.from_method-in-ConnectionOpen.ensures.wh
 pub returns-in-ConnectionOpen : goal.returns-in-ConnectionOpen
 returns-in-ConnectionOpen c = rw c.unwrap-in-ConnectionOpen.ensures at c.from_method-in-ConnectionOpen.ensures.args
 
-pub unwrap-requires-in-ConnectionOpenOk : goal.unwrap-requires-in-ConnectionOpenOk
-unwrap-requires-in-ConnectionOpenOk c = c.from_method-in-ConnectionOpenOk.ensures.when.1 (sym c.kind.ensures ∙ c.in-ConnectionOpenOk.is)
+pub of_method-requires : goal.of_method-requires
+of_method-requires c = sym c.kind.ensures ∙ c.in-ConnectionOpenOk.is
 
 pub returns-in-ConnectionOpenOk : goal.returns-in-ConnectionOpenOk
-returns-in-ConnectionOpenOk c = rw c.unwrap-in-ConnectionOpenOk.ensures at c.from_method-in-ConnectionOpenOk.ensures.args
+returns-in-ConnectionOpenOk c = c.of_method.ensures
 
 pub unwrap-requires-in-ConnectionClose : goal.unwrap-requires-in-ConnectionClose
 unwrap-requires-in-ConnectionClose c = c.from_method-in-ConnectionClose.ensures.when.1 (sym c.kind.ensures ∙ c.in-ConnectionClose.is)
@@ -55,11 +55,11 @@ unwrap-requires-in-ConnectionClose c = c.from_method-in-ConnectionClose.ensures.
 pub returns-in-ConnectionClose : goal.returns-in-ConnectionClose
 returns-in-ConnectionClose c = rw c.unwrap-in-ConnectionClose.ensures at c.from_method-in-ConnectionClose.ensures.args
 
-pub unwrap-requires-in-ConnectionCloseOk : goal.unwrap-requires-in-ConnectionCloseOk
-unwrap-requires-in-ConnectionCloseOk c = c.from_method-in-ConnectionCloseOk.ensures.when.1 (sym c.kind.ensures ∙ c.in-ConnectionCloseOk.is)
+pub of_method-requires-in-ConnectionCloseOk : goal.of_method-requires-in-ConnectionCloseOk
+of_method-requires-in-ConnectionCloseOk c = sym c.kind.ensures ∙ c.in-ConnectionCloseOk.is
 
 pub returns-in-ConnectionCloseOk : goal.returns-in-ConnectionCloseOk
-returns-in-ConnectionCloseOk c = rw c.unwrap-in-ConnectionCloseOk.ensures at c.from_method-in-ConnectionCloseOk.ensures.args
+returns-in-ConnectionCloseOk c = c.of_method-in-ConnectionCloseOk.ensures
 
 pub unwrap-requires-in-ConnectionBlocked : goal.unwrap-requires-in-ConnectionBlocked
 unwrap-requires-in-ConnectionBlocked c = c.from_method-in-ConnectionBlocked.ensures.when.1 (sym c.kind.ensures ∙ c.in-ConnectionBlocked.is)
@@ -67,8 +67,8 @@ unwrap-requires-in-ConnectionBlocked c = c.from_method-in-ConnectionBlocked.ensu
 pub returns-in-ConnectionBlocked : goal.returns-in-ConnectionBlocked
 returns-in-ConnectionBlocked c = rw c.unwrap-in-ConnectionBlocked.ensures at c.from_method-in-ConnectionBlocked.ensures.args
 
-pub unwrap-requires-in-ConnectionUnblocked : goal.unwrap-requires-in-ConnectionUnblocked
-unwrap-requires-in-ConnectionUnblocked c = c.from_method-in-ConnectionUnblocked.ensures.when.1 (sym c.kind.ensures ∙ c.in-ConnectionUnblocked.is)
+pub of_method-requires-in-ConnectionUnblocked : goal.of_method-requires-in-ConnectionUnblocked
+of_method-requires-in-ConnectionUnblocked c = sym c.kind.ensures ∙ c.in-ConnectionUnblocked.is
 
 pub returns-in-ConnectionUnblocked : goal.returns-in-ConnectionUnblocked
-returns-in-ConnectionUnblocked c = rw c.unwrap-in-ConnectionUnblocked.ensures at c.from_method-in-ConnectionUnblocked.ensures.args
+returns-in-ConnectionUnblocked c = c.of_method-in-ConnectionUnblocked.ensures

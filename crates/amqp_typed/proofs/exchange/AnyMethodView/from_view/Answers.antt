@@ -7,11 +7,11 @@ unwrap-requires c = c.from_view.ensures.when.1 (sym c.kind.ensures ∙ c.in-Exch
 pub returns-in-ExchangeDeclare : goal.returns-in-ExchangeDeclare
 returns-in-ExchangeDeclare c = rw c.unwrap.ensures at c.from_view.ensures.args
 
-pub unwrap-requires-in-ExchangeDeclareOk : goal.unwrap-requires-in-ExchangeDeclareOk
-unwrap-requires-in-ExchangeDeclareOk c = c.from_view-in-ExchangeDeclareOk.ensures.when.1 (sym c.kind.ensures ∙ c.in-ExchangeDeclareOk.is)
+pub of_view-requires : goal.of_view-requires
+of_view-requires c = sym c.kind.ensures ∙ c.in-ExchangeDeclareOk.is
 
 pub returns-in-ExchangeDeclareOk : goal.returns-in-ExchangeDeclareOk
-returns-in-ExchangeDeclareOk c = rw c.unwrap-in-ExchangeDeclareOk.ensures at c.from_view-in-ExchangeDeclareOk.ensures.args
+returns-in-ExchangeDeclareOk c = c.of_view.ensures
 
 pub unwrap-requires-in-ExchangeDelete : goal.unwrap-requires-in-ExchangeDelete
 unwrap-requires-in-ExchangeDelete c = c.from_view-in-ExchangeDelete.ensures.when.1 (sym c.kind.ensures ∙ c.in-ExchangeDelete.is)
@@ -19,11 +19,11 @@ unwrap-requires-in-ExchangeDelete c = c.from_view-in-ExchangeDelete.ensures.when
 pub returns-in-ExchangeDelete : goal.returns-in-ExchangeDelete
 returns-in-ExchangeDelete c = rw c.unwrap-in-ExchangeDelete.ensures at c.from_view-in-ExchangeDelete.ensures.args
 
-pub unwrap-requires-in-ExchangeDeleteOk : goal.unwrap-requires-in-ExchangeDeleteOk
-unwrap-requires-in-ExchangeDeleteOk c = c.from_view-in-ExchangeDeleteOk.ensures.when.1 (sym c.kind.ensures ∙ c.in-ExchangeDeleteOk.is)
+pub of_view-requires-in-ExchangeDeleteOk : goal.of_view-requires-in-ExchangeDeleteOk
+of_view-requires-in-ExchangeDeleteOk c = sym c.kind.ensures ∙ c.in-ExchangeDeleteOk.is
 
 pub returns-in-ExchangeDeleteOk : goal.returns-in-ExchangeDeleteOk
-returns-in-ExchangeDeleteOk c = rw c.unwrap-in-ExchangeDeleteOk.ensures at c.from_view-in-ExchangeDeleteOk.ensures.args
+returns-in-ExchangeDeleteOk c = c.of_view-in-ExchangeDeleteOk.ensures
 
 pub unwrap-requires-in-ExchangeBind : goal.unwrap-requires-in-ExchangeBind
 unwrap-requires-in-ExchangeBind c = c.from_view-in-ExchangeBind.ensures.when.1 (sym c.kind.ensures ∙ c.in-ExchangeBind.is)
@@ -31,11 +31,11 @@ unwrap-requires-in-ExchangeBind c = c.from_view-in-ExchangeBind.ensures.when.1 (
 pub returns-in-ExchangeBind : goal.returns-in-ExchangeBind
 returns-in-ExchangeBind c = rw c.unwrap-in-ExchangeBind.ensures at c.from_view-in-ExchangeBind.ensures.args
 
-pub unwrap-requires-in-ExchangeBindOk : goal.unwrap-requires-in-ExchangeBindOk
-unwrap-requires-in-ExchangeBindOk c = c.from_view-in-ExchangeBindOk.ensures.when.1 (sym c.kind.ensures ∙ c.in-ExchangeBindOk.is)
+pub of_view-requires-in-ExchangeBindOk : goal.of_view-requires-in-ExchangeBindOk
+of_view-requires-in-ExchangeBindOk c = sym c.kind.ensures ∙ c.in-ExchangeBindOk.is
 
 pub returns-in-ExchangeBindOk : goal.returns-in-ExchangeBindOk
-returns-in-ExchangeBindOk c = rw c.unwrap-in-ExchangeBindOk.ensures at c.from_view-in-ExchangeBindOk.ensures.args
+returns-in-ExchangeBindOk c = c.of_view-in-ExchangeBindOk.ensures
 
 pub unwrap-requires-in-ExchangeUnbind : goal.unwrap-requires-in-ExchangeUnbind
 unwrap-requires-in-ExchangeUnbind c = c.from_view-in-ExchangeUnbind.ensures.when.1 (sym c.kind.ensures ∙ c.in-ExchangeUnbind.is)
@@ -43,8 +43,8 @@ unwrap-requires-in-ExchangeUnbind c = c.from_view-in-ExchangeUnbind.ensures.when
 pub returns-in-ExchangeUnbind : goal.returns-in-ExchangeUnbind
 returns-in-ExchangeUnbind c = rw c.unwrap-in-ExchangeUnbind.ensures at c.from_view-in-ExchangeUnbind.ensures.args
 
-pub unwrap-requires-in-ExchangeUnbindOk : goal.unwrap-requires-in-ExchangeUnbindOk
-unwrap-requires-in-ExchangeUnbindOk c = c.from_view-in-ExchangeUnbindOk.ensures.when.1 (sym c.kind.ensures ∙ c.in-ExchangeUnbindOk.is)
+pub of_view-requires-in-ExchangeUnbindOk : goal.of_view-requires-in-ExchangeUnbindOk
+of_view-requires-in-ExchangeUnbindOk c = sym c.kind.ensures ∙ c.in-ExchangeUnbindOk.is
 
 pub returns-in-ExchangeUnbindOk : goal.returns-in-ExchangeUnbindOk
-returns-in-ExchangeUnbindOk c = rw c.unwrap-in-ExchangeUnbindOk.ensures at c.from_view-in-ExchangeUnbindOk.ensures.args
+returns-in-ExchangeUnbindOk c = c.of_view-in-ExchangeUnbindOk.ensures

@@ -1,7 +1,7 @@
 use Rattle.std.proofs.Common.{refl}
 use Rattle.amqp_method.specs.MethodView.{method_view}
 use Rattle.amqp_method.specs.declared.kinds.Kind.TheVariants.{ExchangeUnbind}
-use Rattle.amqp_typed.proofs.Places.{at_place, call_5}
+use Rattle.amqp_typed.proofs.Places.{at_place, call_5, when_yes, when_no}
 use Rattle.amqp_typed.proofs.exchange.UnbindRef.from_method.Goals as goal
 
 pub short_str_at-requires : goal.short_str_at-requires
@@ -23,3 +23,9 @@ pub returns-clause-args : goal.returns-clause-args
 returns-clause-args c =
     call_5 _ _ (c.is_kind.ensures.0 c.if-not-is_kind.false) c.args.method.now.fit refl
     c.short_str_at.ensures c.short_str_at-2.ensures c.short_str_at-3.ensures c.bit_at.ensures c.table_at.ensures
+
+pub returns-then-not-is_kind-clause-when : goal.returns-then-not-is_kind-clause-when
+returns-then-not-is_kind-clause-when c = when_no c.is_kind.ensures c.if-not-is_kind.true
+
+pub returns-clause-when : goal.returns-clause-when
+returns-clause-when c = when_yes c.is_kind.ensures c.if-not-is_kind.false

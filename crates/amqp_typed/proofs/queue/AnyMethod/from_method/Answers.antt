@@ -19,11 +19,11 @@ unwrap-requires-in-QueueBind c = c.from_method-in-QueueBind.ensures.when.1 (sym 
 pub returns-in-QueueBind : goal.returns-in-QueueBind
 returns-in-QueueBind c = rw c.unwrap-in-QueueBind.ensures at c.from_method-in-QueueBind.ensures.args
 
-pub unwrap-requires-in-QueueBindOk : goal.unwrap-requires-in-QueueBindOk
-unwrap-requires-in-QueueBindOk c = c.from_method-in-QueueBindOk.ensures.when.1 (sym c.kind.ensures ∙ c.in-QueueBindOk.is)
+pub of_method-requires : goal.of_method-requires
+of_method-requires c = sym c.kind.ensures ∙ c.in-QueueBindOk.is
 
 pub returns-in-QueueBindOk : goal.returns-in-QueueBindOk
-returns-in-QueueBindOk c = rw c.unwrap-in-QueueBindOk.ensures at c.from_method-in-QueueBindOk.ensures.args
+returns-in-QueueBindOk c = c.of_method.ensures
 
 pub unwrap-requires-in-QueueUnbind : goal.unwrap-requires-in-QueueUnbind
 unwrap-requires-in-QueueUnbind c = c.from_method-in-QueueUnbind.ensures.when.1 (sym c.kind.ensures ∙ c.in-QueueUnbind.is)
@@ -31,11 +31,11 @@ unwrap-requires-in-QueueUnbind c = c.from_method-in-QueueUnbind.ensures.when.1 (
 pub returns-in-QueueUnbind : goal.returns-in-QueueUnbind
 returns-in-QueueUnbind c = rw c.unwrap-in-QueueUnbind.ensures at c.from_method-in-QueueUnbind.ensures.args
 
-pub unwrap-requires-in-QueueUnbindOk : goal.unwrap-requires-in-QueueUnbindOk
-unwrap-requires-in-QueueUnbindOk c = c.from_method-in-QueueUnbindOk.ensures.when.1 (sym c.kind.ensures ∙ c.in-QueueUnbindOk.is)
+pub of_method-requires-in-QueueUnbindOk : goal.of_method-requires-in-QueueUnbindOk
+of_method-requires-in-QueueUnbindOk c = sym c.kind.ensures ∙ c.in-QueueUnbindOk.is
 
 pub returns-in-QueueUnbindOk : goal.returns-in-QueueUnbindOk
-returns-in-QueueUnbindOk c = rw c.unwrap-in-QueueUnbindOk.ensures at c.from_method-in-QueueUnbindOk.ensures.args
+returns-in-QueueUnbindOk c = c.of_method-in-QueueUnbindOk.ensures
 
 pub unwrap-requires-in-QueuePurge : goal.unwrap-requires-in-QueuePurge
 unwrap-requires-in-QueuePurge c = c.from_method-in-QueuePurge.ensures.when.1 (sym c.kind.ensures ∙ c.in-QueuePurge.is)

@@ -19,11 +19,11 @@ unwrap-requires-in-QueueBind c = c.from_view-in-QueueBind.ensures.when.1 (sym c.
 pub returns-in-QueueBind : goal.returns-in-QueueBind
 returns-in-QueueBind c = rw c.unwrap-in-QueueBind.ensures at c.from_view-in-QueueBind.ensures.args
 
-pub unwrap-requires-in-QueueBindOk : goal.unwrap-requires-in-QueueBindOk
-unwrap-requires-in-QueueBindOk c = c.from_view-in-QueueBindOk.ensures.when.1 (sym c.kind.ensures ∙ c.in-QueueBindOk.is)
+pub of_view-requires : goal.of_view-requires
+of_view-requires c = sym c.kind.ensures ∙ c.in-QueueBindOk.is
 
 pub returns-in-QueueBindOk : goal.returns-in-QueueBindOk
-returns-in-QueueBindOk c = rw c.unwrap-in-QueueBindOk.ensures at c.from_view-in-QueueBindOk.ensures.args
+returns-in-QueueBindOk c = c.of_view.ensures
 
 pub unwrap-requires-in-QueueUnbind : goal.unwrap-requires-in-QueueUnbind
 unwrap-requires-in-QueueUnbind c = c.from_view-in-QueueUnbind.ensures.when.1 (sym c.kind.ensures ∙ c.in-QueueUnbind.is)
@@ -31,11 +31,11 @@ unwrap-requires-in-QueueUnbind c = c.from_view-in-QueueUnbind.ensures.when.1 (sy
 pub returns-in-QueueUnbind : goal.returns-in-QueueUnbind
 returns-in-QueueUnbind c = rw c.unwrap-in-QueueUnbind.ensures at c.from_view-in-QueueUnbind.ensures.args
 
-pub unwrap-requires-in-QueueUnbindOk : goal.unwrap-requires-in-QueueUnbindOk
-unwrap-requires-in-QueueUnbindOk c = c.from_view-in-QueueUnbindOk.ensures.when.1 (sym c.kind.ensures ∙ c.in-QueueUnbindOk.is)
+pub of_view-requires-in-QueueUnbindOk : goal.of_view-requires-in-QueueUnbindOk
+of_view-requires-in-QueueUnbindOk c = sym c.kind.ensures ∙ c.in-QueueUnbindOk.is
 
 pub returns-in-QueueUnbindOk : goal.returns-in-QueueUnbindOk
-returns-in-QueueUnbindOk c = rw c.unwrap-in-QueueUnbindOk.ensures at c.from_view-in-QueueUnbindOk.ensures.args
+returns-in-QueueUnbindOk c = c.of_view-in-QueueUnbindOk.ensures
 
 pub unwrap-requires-in-QueuePurge : goal.unwrap-requires-in-QueuePurge
 unwrap-requires-in-QueuePurge c = c.from_view-in-QueuePurge.ensures.when.1 (sym c.kind.ensures ∙ c.in-QueuePurge.is)

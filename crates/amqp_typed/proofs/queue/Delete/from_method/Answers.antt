@@ -3,18 +3,18 @@ use Rattle.amqp_method.specs.declared.kinds.Kind.TheVariants.{QueueDelete}
 use Rattle.amqp_typed.proofs.queue.Delete.from_method.Goals as goal
 
 pub short_str-requires : goal.short_str-requires
-short_str-requires c = (kinds_4 (kinds_in QueueDelete c.in_ok-args.args _ c.in_ok-args.ensures.fit c.four-queue.ensures)).0
+short_str-requires c = (kinds_4 (kinds_in QueueDelete c.in-Ok.args _ c.in-Ok.ensures.fit c.four-queue.ensures)).0
 
 pub bit-requires : goal.bit-requires
-bit-requires c = (kinds_4 (kinds_in QueueDelete c.in_ok-args.args _ c.in_ok-args.ensures.fit c.four-queue.ensures)).1
+bit-requires c = (kinds_4 (kinds_in QueueDelete c.in-Ok.args _ c.in-Ok.ensures.fit c.four-queue.ensures)).1
 
-pub bit-requires-2 : goal.bit-requires-2
-bit-requires-2 c = (kinds_4 (kinds_in QueueDelete c.in_ok-args.args _ c.in_ok-args.ensures.fit c.four-queue.ensures)).2
+pub bit-requires-in-Ok : goal.bit-requires-in-Ok
+bit-requires-in-Ok c = (kinds_4 (kinds_in QueueDelete c.in-Ok.args _ c.in-Ok.ensures.fit c.four-queue.ensures)).2
 
-pub bit-requires-3 : goal.bit-requires-3
-bit-requires-3 c = (kinds_4 (kinds_in QueueDelete c.in_ok-args.args _ c.in_ok-args.ensures.fit c.four-queue.ensures)).3
+pub bit-requires-in-Ok-2 : goal.bit-requires-in-Ok-2
+bit-requires-in-Ok-2 c = (kinds_4 (kinds_in QueueDelete c.in-Ok.args _ c.in-Ok.ensures.fit c.four-queue.ensures)).3
 
-pub returns-clause-args : goal.returns-clause-args
-returns-clause-args c =
-    made_4 _ QueueDelete c.in_ok-args.args c.in_ok-args.ensures.args c.four-queue.ensures
-    c.short_str.ensures c.bit.ensures c.bit-2.ensures c.bit-3.ensures
+pub returns-in-Ok-clause-args : goal.returns-in-Ok-clause-args
+returns-in-Ok-clause-args c =
+    made_4 _ QueueDelete c.in-Ok.args c.in-Ok.ensures.args c.four-queue.ensures
+    c.short_str.ensures c.bit.ensures c.bit-in-Ok.ensures c.bit-in-Ok-2.ensures

@@ -1,38 +1,38 @@
 use Rattle.std.proofs.Common.{sym, ◌∙◌}
 use Rattle.amqp_typed.proofs.tx.AnyMethod.from_view.Goals as goal
 
-pub unwrap-requires : goal.unwrap-requires
-unwrap-requires c = c.from_view.ensures.when.1 (sym c.kind.ensures ∙ c.in-TxSelect.is)
+pub of_view-requires : goal.of_view-requires
+of_view-requires c = sym c.kind.ensures ∙ c.in-TxSelect.is
 
 pub returns-in-TxSelect : goal.returns-in-TxSelect
-returns-in-TxSelect c = rw c.unwrap.ensures at c.from_view.ensures.args
+returns-in-TxSelect c = c.of_view.ensures
 
-pub unwrap-requires-in-TxSelectOk : goal.unwrap-requires-in-TxSelectOk
-unwrap-requires-in-TxSelectOk c = c.from_view-in-TxSelectOk.ensures.when.1 (sym c.kind.ensures ∙ c.in-TxSelectOk.is)
+pub of_view-requires-in-TxSelectOk : goal.of_view-requires-in-TxSelectOk
+of_view-requires-in-TxSelectOk c = sym c.kind.ensures ∙ c.in-TxSelectOk.is
 
 pub returns-in-TxSelectOk : goal.returns-in-TxSelectOk
-returns-in-TxSelectOk c = rw c.unwrap-in-TxSelectOk.ensures at c.from_view-in-TxSelectOk.ensures.args
+returns-in-TxSelectOk c = c.of_view-in-TxSelectOk.ensures
 
-pub unwrap-requires-in-TxCommit : goal.unwrap-requires-in-TxCommit
-unwrap-requires-in-TxCommit c = c.from_view-in-TxCommit.ensures.when.1 (sym c.kind.ensures ∙ c.in-TxCommit.is)
+pub of_view-requires-in-TxCommit : goal.of_view-requires-in-TxCommit
+of_view-requires-in-TxCommit c = sym c.kind.ensures ∙ c.in-TxCommit.is
 
 pub returns-in-TxCommit : goal.returns-in-TxCommit
-returns-in-TxCommit c = rw c.unwrap-in-TxCommit.ensures at c.from_view-in-TxCommit.ensures.args
+returns-in-TxCommit c = c.of_view-in-TxCommit.ensures
 
-pub unwrap-requires-in-TxCommitOk : goal.unwrap-requires-in-TxCommitOk
-unwrap-requires-in-TxCommitOk c = c.from_view-in-TxCommitOk.ensures.when.1 (sym c.kind.ensures ∙ c.in-TxCommitOk.is)
+pub of_view-requires-in-TxCommitOk : goal.of_view-requires-in-TxCommitOk
+of_view-requires-in-TxCommitOk c = sym c.kind.ensures ∙ c.in-TxCommitOk.is
 
 pub returns-in-TxCommitOk : goal.returns-in-TxCommitOk
-returns-in-TxCommitOk c = rw c.unwrap-in-TxCommitOk.ensures at c.from_view-in-TxCommitOk.ensures.args
+returns-in-TxCommitOk c = c.of_view-in-TxCommitOk.ensures
 
-pub unwrap-requires-in-TxRollback : goal.unwrap-requires-in-TxRollback
-unwrap-requires-in-TxRollback c = c.from_view-in-TxRollback.ensures.when.1 (sym c.kind.ensures ∙ c.in-TxRollback.is)
+pub of_view-requires-in-TxRollback : goal.of_view-requires-in-TxRollback
+of_view-requires-in-TxRollback c = sym c.kind.ensures ∙ c.in-TxRollback.is
 
 pub returns-in-TxRollback : goal.returns-in-TxRollback
-returns-in-TxRollback c = rw c.unwrap-in-TxRollback.ensures at c.from_view-in-TxRollback.ensures.args
+returns-in-TxRollback c = c.of_view-in-TxRollback.ensures
 
-pub unwrap-requires-in-TxRollbackOk : goal.unwrap-requires-in-TxRollbackOk
-unwrap-requires-in-TxRollbackOk c = c.from_view-in-TxRollbackOk.ensures.when.1 (sym c.kind.ensures ∙ c.in-TxRollbackOk.is)
+pub of_view-requires-in-TxRollbackOk : goal.of_view-requires-in-TxRollbackOk
+of_view-requires-in-TxRollbackOk c = sym c.kind.ensures ∙ c.in-TxRollbackOk.is
 
 pub returns-in-TxRollbackOk : goal.returns-in-TxRollbackOk
-returns-in-TxRollbackOk c = rw c.unwrap-in-TxRollbackOk.ensures at c.from_view-in-TxRollbackOk.ensures.args
+returns-in-TxRollbackOk c = c.of_view-in-TxRollbackOk.ensures
