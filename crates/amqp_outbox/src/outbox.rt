@@ -64,12 +64,12 @@ const KEPT_OCTETS: usize = 65_536;
 /// For how many frames it does: their slots take as much as so many octets.
 const KEPT_SLOTS: usize = 4_096;
 
-/// For how many octets it keeps its room over a few writes that leave little, and for how many frames.
+/// For how many octets it keeps its room over a few writes that use little, and for how many frames.
 const LARGE_OCTETS: usize = 4_194_304;
 
 const LARGE_SLOTS: usize = 262_144;
 
-/// After so many writes in a row that leave little of much room it gives the room back, even where it isn't large.
+/// After so many writes in a row that use little of much room it gives the room back, even where it isn't large.
 const SPARED: u8 = 16;
 
 /// What an end has put and not written, and the frames that it is about to put.
@@ -101,7 +101,7 @@ pub struct Outbox {
     begun_on: u16,
     /// the channel above 0 whose frame was begun most recently, 0 at first
     last: u16,
-    /// how many writes in a row left little of much room
+    /// how many writes in a row used little of much room
     spared: u8,
 }
 
@@ -198,9 +198,9 @@ impl Outbox {
 
     /// So many octets of the output are written.
     ///
-    /// Room is given back where little is left of much. Room of which a sixteenth is in use, or of at most 64 KiB, is
-    /// kept. Other room of more than 4 MiB is given back at once, and less after 16 writes in a row that leave so
-    /// little: contents that follow one another find the room that they had. It is the like with the slots.
+    /// Room of more than 64 KiB is given back, once less than a sixteenth of it is used: of more than 4 MiB at once,
+    /// where a write leaves so little, and of less after 16 writes in a row before which so little stood there. So
+    /// contents that follow one another find the room that they had. It is the like with the slots.
     pub fn wrote(&mut self, octets: usize)
         requires { octets ≤ length (output_octets self.old.output) }
         ensures { self.new ≡ with_output self.old (after_writing octets self.old.output) }
@@ -290,19 +290,22 @@ impl Outbox {
     {
         let octets = Room {
             all: self.octets.capacity(),
-            used: self.octets.len() - self.written,
+            filled: self.octets.len(),
+            left: self.octets.len() - self.written,
             kept: KEPT_OCTETS,
             large: LARGE_OCTETS,
         };
         let slots = Room {
             all: self.slots.capacity(),
-            used: self.slots.len() - self.slots_begun,
+            filled: self.slots.len(),
+            left: self.slots.len() - self.slots_begun,
             kept: KEPT_SLOTS,
             large: LARGE_SLOTS,
         };
         let aside = Room {
             all: self.aside.capacity(),
-            used: self.aside.len(),
+            filled: self.aside.len(),
+            left: self.aside.len(),
             kept: KEPT_OCTETS,
             large: LARGE_OCTETS,
         };
@@ -327,14 +330,14 @@ impl Outbox {
         if octets.is_spare() {
             self.forget_written();
             let held = self.octets.len().saturating_add(self.aside.len());
-            self.octets.shrink_to(octets.left().max(held));
+            self.octets.shrink_to(octets.smaller().max(held));
         }
         if aside.is_spare() {
-            self.aside.shrink_to(aside.left());
+            self.aside.shrink_to(aside.smaller());
         }
         if slots.is_spare() {
             self.forget_begun();
-            self.slots.shrink_to(slots.left());
+            self.slots.shrink_to(slots.smaller());
         }
     }
 
@@ -711,27 +714,39 @@ fn keep_room(octets: &mut Vec<u8>, aside: &mut Vec<u8>, at: usize) -> Result<(),
 #[derive(Clone, Copy)]
 struct Room {
     all: usize,
-    used: usize,
+    /// with those that are written, and not dropped yet
+    filled: usize,
+    /// without them
+    left: usize,
     /// always
     kept: usize,
-    /// over a few writes that leave little
+    /// over a few writes that use little
     large: usize,
 }
 
 impl Room {
+    /// How many count as using it: those that are left alone, where it is more than is kept over a few writes.
+    fn used(self) -> usize {
+        if self.all > self.large {
+            self.left
+        } else {
+            self.filled
+        }
+    }
+
     /// Whether it is more than is kept of it always.
     fn is_spare(self) -> bool {
-        self.all > self.kept && self.used < self.all / 16
+        self.all > self.kept && self.used() < self.all / 16
     }
 
     /// Whether it is more than is kept over a few writes.
     fn is_large(self) -> bool {
-        self.all > self.large && self.used < self.all / 16
+        self.all > self.large && self.used() < self.all / 16
     }
 
     /// For how many there is to be room, once some is given back.
-    fn left(self) -> usize {
-        self.used.saturating_mul(2).max(self.kept)
+    fn smaller(self) -> usize {
+        self.used().saturating_mul(2).max(self.kept)
     }
 }
 
