@@ -54,7 +54,7 @@ pieces_more octets room some more =
 pub pieces_none : (room : ℕ) → 0 < room → pieces room [] ≡ []
 pieces_none room some = let none : 0 + room - 1 < room = omega arith in ap (λ n. first_pieces n room []) (div-eq_of_lt none)
 
-same_drop : (rest : List ℕ) (room : ℕ) → drop (min room (length rest)) rest ≡ drop room rest
+pub same_drop : (rest : List ℕ) (room : ℕ) → drop (min room (length rest)) rest ≡ drop room rest
 same_drop [] zero = refl
 same_drop [] (suc room) = let none : min (suc room) 0 ≡ 0 = omega arith in ap (λ n. drop n []) none
 same_drop (x ∷ rest) zero = let none : min 0 (length (x ∷ rest)) ≡ 0 = omega arith in ap (λ n. drop n (x ∷ rest)) none

@@ -1,5 +1,7 @@
 pub mod BodyParts
 mod ChunkLemmas
+mod LentBraids
+mod LentLemmas
 mod OutboxAside
 mod OutboxFrames
 mod OutboxHanding

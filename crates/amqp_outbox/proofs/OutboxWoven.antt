@@ -197,7 +197,7 @@ between-laps x y rows coming octets s follow a p rows_are w lap last =
     }
 
 -- putting frames one after another makes the row of all of them
-puts-row : (frames : List Frame) (o : Output) → after_puts frames o ≡ record { ahead = o.ahead; begun_on = o.begun_on; last = o.last; row = placed_all o.last frames o.row }
+pub puts-row : (frames : List Frame) (o : Output) → after_puts frames o ≡ record { ahead = o.ahead; begun_on = o.begun_on; last = o.last; row = placed_all o.last frames o.row }
 puts-row [] o = refl
 puts-row (f ∷ frames) o = puts-row frames (after_put f o)
 

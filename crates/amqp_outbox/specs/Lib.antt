@@ -5,6 +5,8 @@ pub mod OutboxView
 pub mod OutboxFields
 pub mod OutboxFrames
 pub mod OutboxFaults
+pub mod LentContent
+pub mod LentFrames
 pub mod StagesChunks
 pub mod PiecesQueues
 pub mod PiecesFields

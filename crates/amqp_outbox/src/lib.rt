@@ -10,6 +10,7 @@
 mod chunks;
 mod handing;
 mod lending;
+mod lent;
 mod newest;
 mod outbox;
 mod parts;
@@ -23,6 +24,7 @@ mod weaving;
 pub use crate::chunks::Chunks;
 pub use crate::handing::HandOverFault;
 pub use crate::lending::Pieces;
+pub use crate::lent::ContentFrames;
 pub use crate::outbox::Outbox;
 pub use crate::send_queue::SendQueue;
 pub use crate::staging::StageFault;

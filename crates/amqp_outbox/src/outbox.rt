@@ -22,7 +22,9 @@
 //! memory for the places, and a frame of channel 0 that goes before others. So the worst is a row of many octets of
 //! which none is written, and frames that go near its beginning: a put moves nearly all of the row. A write reads the
 //! slots of the frames that it begins, and moves nothing: what it wrote is dropped later, before a frame is staged.
-ghost use Rattle.std.specs.Prelude.{◌≡◌, ℕ, ◌+◌, ◌^◌, ◌<◌, ◌≤◌, ◌==◌, [], ◌∷◌, ◌++◌, ◌≢◌, length, take, drop, slice_set, vec_capacity, IfErr, IfSome, OnOk, OnErr, Err};
+ghost use Rattle.std.specs.Prelude.{◌≡◌, ℕ, List, ◌+◌, ◌^◌, ◌<◌, ◌≤◌, ◌==◌, [], ◌∷◌, ◌++◌, ◌≢◌, length, take, drop, slice_set, vec_capacity, IfErr, IfSome, OnOk, OnErr, Err};
+ghost use Rattle.amqp_frame.specs.Frame.{Frame};
+ghost use Rattle.amqp_frame.specs.Splitting.{stream};
 ghost use Rattle.amqp_method.specs.HeaderView.{properties_view};
 ghost use Rattle.amqp_method.specs.MethodView.{method_view};
 ghost use Rattle.amqp_method.specs.Plain.{plain_method, plain_header, CountsAllFit, CountsPresentFit};
@@ -32,6 +34,7 @@ ghost use Rattle.amqp_model.specs.End.Closes.{method_frame};
 ghost use Rattle.amqp_model.specs.End.Controls.{heartbeat_frame};
 ghost use Rattle.amqp_model.specs.Wire.Methods.{ReadsBack};
 ghost use Rattle.amqp_model.specs.Output.Outputs.{output_octets, waiting_on, after_puts, after_writing};
+ghost use Rattle.amqp_outbox.specs.LentContent.{AllOn, all_written};
 ghost use Rattle.amqp_outbox.specs.OutboxFaults.{begun, out_of_memory, too_long};
 ghost use Rattle.amqp_outbox.specs.OutboxFrames.{header_frame, body_frame, HeaderReadsBack};
 ghost use Rattle.amqp_outbox.specs.OutboxLaps.{laps_in};
@@ -364,6 +367,21 @@ impl Outbox {
         };
         queue.put();
         Ok(())
+    }
+
+    /// Frames of a channel above 0 are put, and written at once: at least one frame, where nothing waits. Their octets go
+    /// to the stream from elsewhere, as [`ContentFrames`](crate::ContentFrames) lends them.
+    pub fn pass(&mut self, channel: u16)
+        requires above { 0 < channel }
+        requires nothing { output_octets self.old.output ≡ [] }
+        ensures written { (f : Frame) (later : List Frame) → AllOn channel (f ∷ later)
+            → self.new ≡ with_output self.old (all_written (after_puts (f ∷ later) self.old.output)) }
+        // They leave in the order put.
+        ensures order { (frames : List Frame) → AllOn channel frames
+            → output_octets (after_puts frames self.old.output) ≡ stream frames }
+    {
+        self.begun_on = channel;
+        self.last = channel;
     }
 
     /// Makes room for so many frames of so many octets together, so that staging them grows nothing step by step.

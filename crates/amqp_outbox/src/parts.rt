@@ -13,7 +13,7 @@ use amqp_frame::{FrameKind, HEADER_LENGTH, OVERHEAD};
 use byteorder::{BigEndian, ByteOrder};
 
 /// The octet that stands after a payload.
-const END: u8 = 0xce;
+pub(crate) const END: u8 = 0xce;
 
 /// At least as many parts as a body has, and how many octets so many frames have with the whole body in them.
 #[derive(Clone, Copy)]
@@ -103,7 +103,7 @@ fn append_start(octets: &mut Vec<u8>, channel: u16, size: u32)
 }
 
 /// The octets before the payload of the frame of a part.
-fn start_of(channel: u16, size: u32) -> [u8; HEADER_LENGTH]
+pub(crate) fn start_of(channel: u16, size: u32) -> [u8; HEADER_LENGTH]
     ensures { result ≡ frame_start Body channel size }
 {
     let mut start = [3; HEADER_LENGTH];
