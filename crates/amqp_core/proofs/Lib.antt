@@ -56,6 +56,7 @@ pub mod CounterLemmas
 pub mod HeardLemmas
 pub mod HearingLemmas
 pub mod LendLemmas
+mod LendingLemmas
 pub mod StreamHistoryLemmas
 pub mod TurningLemmas
 pub mod CutLemmas

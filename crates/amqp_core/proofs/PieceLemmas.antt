@@ -33,7 +33,7 @@ all_staged outbox old channel room rest body some none output staged =
 
 -- A message that is staged: its method, its header and the parts of its body.
 
-bodies_framed : (channel : ℕ) (parts : List (List ℕ)) → map (body_frame channel) parts ≡ map (payload_frame channel) (map Body parts)
+pub bodies_framed : (channel : ℕ) (parts : List (List ℕ)) → map (body_frame channel) parts ≡ map (payload_frame channel) (map Body parts)
 bodies_framed channel [] = refl
 bodies_framed channel (part ∷ parts) = ap (λ l. body_frame channel part ∷ l) (bodies_framed channel parts)
 

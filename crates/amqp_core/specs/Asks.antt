@@ -6,6 +6,7 @@ pub mod LentLetter
 pub mod Refusals
 pub mod Outcomes
 pub mod Effects
+pub mod Lent
 pub mod ControlView
 pub mod Controlled
 pub mod Controlling

@@ -10,5 +10,6 @@ pub mod Queries
 pub mod Lends
 pub mod Writes
 pub mod Asks
+pub mod LentAsks
 pub mod Controls
 pub mod Turning

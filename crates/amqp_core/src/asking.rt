@@ -2,16 +2,21 @@
 //!
 //! The refusals come first, and change nothing. Then all is done that may want memory, the frames being staged; then
 //! the state changes, and the frames are put, which can't fail.
-ghost use Rattle.std.specs.Prelude.{◌≡◌, [], Some, IfOk, IfErr, OnOk, true, OnErr};
+ghost use Rattle.std.specs.Prelude.{◌≡◌, ◌<◌, [], Some, IfOk, IfErr, OnOk, true, OnErr};
+ghost use Rattle.amqp_frame.specs.Splitting.{stream};
 ghost use Rattle.amqp_method.specs.HeaderView.{properties_view};
 ghost use Rattle.amqp_method.specs.Kinds.{has_content};
 ghost use Rattle.amqp_method.specs.MethodView.{method_view};
 ghost use Rattle.amqp_model.specs.End.Asks as asks;
-ghost use Rattle.amqp_model.specs.End.Asks.{lowest_free};
+ghost use Rattle.amqp_model.specs.End.Asks.{frames_asked, lowest_free};
+ghost use Rattle.amqp_model.specs.End.Machine.{end_after_put};
+ghost use Rattle.amqp_model.specs.End.ReadingBack.{AskReadsBack};
+ghost use Rattle.amqp_outbox.specs.LentFrames.{content_left};
 ghost use Rattle.amqp_channel.specs.Events.EventView.{message_of};
 ghost use Rattle.amqp_core.specs.Asks.View.{lent_view};
-ghost use Rattle.amqp_core.specs.Asks.Outcomes.{content_asked, number_taken, IsAccepted, IsRefused};
+ghost use Rattle.amqp_core.specs.Asks.Outcomes.{content_asked, number_taken, IsAccepted, IsAllowed, IsRefusal, IsRefused};
 ghost use Rattle.amqp_core.specs.Heard.View.{cause_view};
+ghost use Rattle.amqp_core.specs.Config.Settings.{config_view, role_for};
 ghost use Rattle.amqp_core.specs.Asks.LentLetter.{lent_letter};
 
 use crate::asks::LentAsk;
@@ -24,7 +29,7 @@ use crate::sending;
 use crate::stage::Stage;
 use amqp_channel::Channel;
 use amqp_method::{Kind, Method, Properties};
-use amqp_outbox::{Chunks, Outbox};
+use amqp_outbox::{Chunks, ContentFrames, Outbox};
 use amqp_value::ShortStr;
 
 impl Connection {
@@ -118,6 +123,42 @@ impl Connection {
         };
         outbox.put();
         Ok(())
+    }
+
+    /// Sends a method and its content on a channel, with the body where it lies: gives the frames, and puts none.
+    pub(crate) fn lend_content<'a>(
+        &mut self,
+        number: u16,
+        method: &Method,
+        properties: &Properties,
+        body: &'a [u8],
+        octets: &'a mut Vec<u8>,
+    ) -> Result<ContentFrames<'a>, AskFault>
+        requires content { has_content (method_view method.now).kind ≡ true }
+        ensures allowed { OnOk result (IsAllowed self.old.settings (connection_end self.old)
+            (content_asked number (method_view method.now) (properties_view properties.now) body.now)) }
+        ensures end { OnOk result (connection_end self.new ≡ end_after_put (role_for self.old.settings)
+            (config_view self.old.settings) (frames_asked (connection_end self.old)
+            (content_asked number (method_view method.now) (properties_view properties.now) body.now))
+            (connection_end self.old)) }
+        ensures reads_back { OnOk result (AskReadsBack
+            (content_asked number (method_view method.now) (properties_view properties.now) body.now)) }
+        ensures lent { IfOk result (λ frames. content_left frames ≡ stream (frames_asked (connection_end self.old)
+            (content_asked number (method_view method.now) (properties_view properties.now) body.now))) }
+        ensures above { OnOk result (0 < number) }
+        ensures refused { IfErr result (λ fault. IsRefusal self.old.settings (connection_end self.old)
+            (content_asked number (method_view method.now) (properties_view properties.now) body.now) fault) }
+        ensures same { OnErr result (connection_end self.new ≡ connection_end self.old) }
+        ensures settings { self.new.settings ≡ self.old.settings }
+    {
+        let agreed = self.allow_content(number, method, properties)?;
+        let site = self.site(number, agreed.channel_max);
+        let frame_max = agreed.frame_max;
+        let frames = sending::lend_frames(octets, number, frame_max, method, properties, body)?;
+        let Ok(()) = self.channels.put_message(self.alloc, site, method) else {
+            unreachable!()
+        };
+        Ok(frames)
     }
 
     /// Asks the other end to send contents on a channel, or no more of them.

@@ -16,6 +16,7 @@ ghost use Rattle.amqp_model.specs.End.Fitting.{ConfigWrites, IfAgreedFits};
 ghost use Rattle.amqp_model.specs.Stream.Octets.{opening_written};
 ghost use Rattle.amqp_model.specs.Output.Outputs.{output_octets};
 ghost use Rattle.amqp_model.specs.Stream.Pieces.{reads_frames};
+ghost use Rattle.amqp_outbox.specs.LentFrames.{content_left};
 ghost use Rattle.amqp_outbox.specs.OutboxView.{begins_with};
 ghost use Rattle.amqp_channel.specs.Roles.{role_of};
 ghost use Rattle.amqp_core.specs.Traced.AccountView.{IsFresh};
@@ -24,6 +25,7 @@ ghost use Rattle.amqp_core.specs.Traced.NotedAsks.{IsChannelOf, IsSizeOf};
 ghost use Rattle.amqp_core.specs.Asks.View.{lent_view};
 ghost use Rattle.amqp_core.specs.Asks.Outcomes.{content_asked, number_taken};
 ghost use Rattle.amqp_core.specs.Asks.Effects.{AcceptsAsk, RefusesAsk};
+ghost use Rattle.amqp_core.specs.Asks.Lent.{all_wrote, asked_by};
 ghost use Rattle.amqp_core.specs.Faults.Answering.{ran_out};
 ghost use Rattle.amqp_core.specs.Asks.ControlView.{control_view};
 ghost use Rattle.amqp_core.specs.Asks.Controlled.{refusal_by};
@@ -53,7 +55,7 @@ use amqp_channel::{EventParts, Side};
 use amqp_frame::{PROTOCOL_HEADER, Splitter, faults_are_judged, one_frame_at_start};
 use amqp_method::{Method, Properties};
 use amqp_model::{bounds, controls, fitting, octets, one_end, pieces};
-use amqp_outbox::{Chunks, Outbox};
+use amqp_outbox::{Chunks, ContentFrames, Outbox};
 use std::alloc::Global;
 
 /// What an end keeps.
@@ -475,6 +477,54 @@ impl Endpoint {
             .send_chunks(outbox, number, method, properties, chunks)
         {
             Ok(()) => Ok(()),
+            Err(fault) => Err(fault),
+        }
+    }
+
+    /// A method and its content whose body is lent: it is refused, or its frames are put, and written at once. Nothing
+    /// waits before.
+    pub(crate) fn lend_content<'a>(
+        &mut self,
+        number: u16,
+        method: &Method,
+        properties: &Properties,
+        body: &'a [u8],
+        octets: &'a mut Vec<u8>,
+    ) -> Result<ContentFrames<'a>, AskFault>
+        requires sound { EndpointIsSound self.old }
+        requires content { has_content (method_view method.now).kind ≡ true }
+        requires nothing { output_octets (endpoint_view self.old).output ≡ [] }
+        ensures accepted { OnOk result (AcceptsAsk (role_at self.old) (config_view self.old.connection.settings)
+            (content_asked number (method_view method.now) (properties_view properties.now) body.now)
+            (endpoint_view self.old) (asked_by self.old.connection.settings (content_asked number
+            (method_view method.now) (properties_view properties.now) body.now) (endpoint_view self.old))) }
+        ensures written { OnOk result (endpoint_view self.new ≡ all_wrote (asked_by self.old.connection.settings
+            (content_asked number (method_view method.now) (properties_view properties.now) body.now)
+            (endpoint_view self.old))) }
+        ensures lent { IfOk result (λ frames. content_left frames
+            ≡ output_octets (asked_by self.old.connection.settings (content_asked number (method_view method.now)
+            (properties_view properties.now) body.now) (endpoint_view self.old)).output) }
+        ensures refused { IfErr result (λ fault. RefusesAsk (role_at self.old)
+            (content_asked number (method_view method.now) (properties_view properties.now) body.now) fault
+            (endpoint_view self.old) (endpoint_view self.new)) }
+        ensures sound { EndpointIsSound self.new }
+        ensures settings { self.new.connection.settings ≡ self.old.connection.settings }
+        ensures tally { tally_view self.new.tally ≡ tally_view self.old.tally }
+    {
+        pieces::unfinished_is_held();
+        fitting::agreed_is_within();
+        fitting::frames_fit();
+        bounds::ends_are_bounded();
+        octets::octets_follow();
+        one_end::ask_is_of_history();
+        match self
+            .connection
+            .lend_content(number, method, properties, body, octets)
+        {
+            Ok(frames) => {
+                self.outbox.pass(number);
+                Ok(frames)
+            }
             Err(fault) => Err(fault),
         }
     }

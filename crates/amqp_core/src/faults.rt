@@ -4,6 +4,7 @@ ghost use Rattle.amqp_outbox.specs.OutboxFaults.{out_of_memory};
 ghost use Rattle.amqp_core.specs.declared.faults.CoreFault.TheVariants as core_faults;
 ghost use Rattle.amqp_core.specs.declared.faults.ConfigFault.TheVariants as config_faults;
 ghost use Rattle.amqp_core.specs.declared.faults.AskFault.TheVariants as ask_faults;
+ghost use Rattle.amqp_core.specs.declared.faults.LendFault.TheVariants as lend_faults;
 ghost use Rattle.amqp_core.specs.Faults.Numbers.{core_fault_number, config_fault_number, ask_fault_number};
 
 use amqp_channel::CloseCode;
@@ -166,6 +167,25 @@ impl AskFault {
         ensures { result ≡ ask_fault_number self }
     {
         self as u8
+    }
+}
+
+/// Why no content is lent. Nothing changes then.
+#[derive(Clone, Copy, PartialEq, Eq, Debug, Error)]
+pub enum LendFault {
+    /// The content is refused, as it is where it is sent.
+    #[error("{0}")]
+    Refused(AskFault),
+    /// What the end has put is to be written first.
+    #[error("octets wait to be written")]
+    Waits,
+}
+
+impl From<AskFault> for LendFault {
+    ghost from_gives = { λ fault lend_fault. lend_fault ≡ lend_faults.Refused fault };
+
+    fn from(fault: AskFault) -> LendFault {
+        LendFault::Refused(fault)
     }
 }
 

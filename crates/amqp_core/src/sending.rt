@@ -4,6 +4,7 @@
 //! size, of 32 bits, and each part of a body fits it; the other methods have a short string at most. So a frame that can't be
 //! staged is one for which there is no memory.
 ghost use Rattle.std.specs.Prelude.{◌≡◌, ◌<◌, [], ◌∷◌, length, map, None, IfOk, IfErr, OnOk, OnErr};
+ghost use Rattle.amqp_frame.specs.Splitting.{stream};
 ghost use Rattle.amqp_method.specs.Arguments.{call, short_string};
 ghost use Rattle.amqp_method.specs.Fitting.{AreOctets, FitsShort};
 ghost use Rattle.amqp_method.specs.HeaderView.{properties_view};
@@ -17,6 +18,7 @@ ghost use Rattle.amqp_model.specs.End.Controls.{heartbeat_frame};
 ghost use Rattle.amqp_model.specs.Wire.Methods.{ReadsBack};
 ghost use Rattle.amqp_model.specs.End.ReadingBack.{AskReadsBack};
 ghost use Rattle.amqp_outbox.specs.OutboxFrames.{header_frame, body_frame, HeaderReadsBack};
+ghost use Rattle.amqp_outbox.specs.LentFrames.{content_left};
 ghost use Rattle.amqp_outbox.specs.OutboxView.{with_staged};
 ghost use Rattle.amqp_channel.specs.Events.EventView.{message_of};
 ghost use Rattle.amqp_channel.specs.Events.Closes.{IsClose};
@@ -29,7 +31,7 @@ use crate::faults::AskFault;
 use crate::heard::Cause;
 use crate::lent_message::LentMessage;
 use amqp_method::{Arg, Kind, Method, Properties};
-use amqp_outbox::{Chunks, Outbox};
+use amqp_outbox::{Chunks, ContentFrames, Outbox};
 use amqp_value::ShortStr;
 use std::alloc::Global;
 
@@ -241,4 +243,29 @@ pub(crate) fn stage_chunks(
         return Err(AskFault::OutOfMemory);
     };
     Ok(())
+}
+
+/// The frames of a method and its content, cut to the agreed frame size, with the body where it lies. What stands around
+/// its parts goes to `octets`.
+pub(crate) fn lend_frames<'a>(
+    octets: &'a mut Vec<u8>,
+    channel: u16,
+    frame_max: u32,
+    method: &Method,
+    properties: &Properties,
+    body: &'a [u8],
+) -> Result<ContentFrames<'a>, AskFault>
+    requires { 8 < frame_max }
+    ensures ok { IfOk result (λ frames. content_left frames ≡ stream (map (payload_frame channel)
+        (message_payloads frame_max (message_of (letter_with (method_view method.now) (properties_view properties.now)
+        body.now))))) }
+    ensures reads_back { OnOk result (AskReadsBack (content_asked channel (method_view method.now)
+        (properties_view properties.now) body.now)) }
+    ensures err { IfErr result (λ fault. refusal_view fault ≡ None) }
+{
+    let room = frame_max - AROUND_PAYLOAD as u32;
+    match ContentFrames::new(channel, method, properties, body, room, octets) {
+        Ok(frames) => Ok(frames),
+        Err(_) => Err(AskFault::OutOfMemory),
+    }
 }

@@ -25,10 +25,11 @@ ghost use Rattle.amqp_core.specs.Heard.OfEnd.{IsLastHeard};
 ghost use Rattle.amqp_core.specs.Heard.View.{cause_there, cause_view, kept_of_kind, method_there};
 ghost use Rattle.amqp_core.specs.Asks.LentLetter.{lent_letter};
 ghost use Rattle.amqp_core.specs.Connection.Stages.{phase_name};
+ghost use Rattle.amqp_core.specs.declared.faults.LendFault.TheVariants as lend_faults;
 
 use crate::asks::{Ask, LentAsk};
 use crate::blame::Blame;
-use crate::faults::AskFault;
+use crate::faults::{AskFault, LendFault};
 use crate::heard::{Cause, NO_CAUSE};
 use crate::lent_message::LentMessage;
 use crate::roles::Role;
@@ -37,7 +38,7 @@ use crate::stream::StreamEnd;
 use amqp_channel::{Agreed, ChannelState};
 use amqp_method::{Kind, Message, Method, Properties};
 use amqp_model::{answers, arrangement, bounds, fitting, octets, one_end, replies, streaming};
-use amqp_outbox::{Chunks, HandOverFault, SendQueue};
+use amqp_outbox::{Chunks, ContentFrames, HandOverFault, SendQueue};
 use amqp_value::ShortStr;
 
 impl<R: Role> StreamEnd<R> {
@@ -45,6 +46,7 @@ impl<R: Role> StreamEnd<R> {
     ghost use Rattle.amqp_core.specs.Stream.Asks.{StreamAnswersLowest, StreamAnswersNumber, StreamAsked};
     ghost use Rattle.amqp_core.specs.Stream.Queries.{AgreedOfHistory, CameOfHistory, DueOfHistory, OutputIsInOrder};
     ghost use Rattle.amqp_core.specs.Stream.Queries.{PendingOfHistory, PhaseOfHistory, StateOfHistory};
+    ghost use Rattle.amqp_core.specs.Stream.LentAsks.{LendsContent};
     ghost use Rattle.amqp_core.specs.Stream.Writes.{HandsOver, StreamWrote};
     ghost use Rattle.amqp_core.specs.Stream.View.{config_at, counters_of, endpoint_of, heard_in, role_played};
     ghost use Rattle.amqp_core.specs.Stream.View.{settings_at};
@@ -348,6 +350,56 @@ impl<R: Role> StreamEnd<R> {
         streaming::alike_ends_ask_alike();
         streaming::alike_endpoints_stay_alike();
         self.inner.send_chunks(channel, method, properties, body)
+    }
+
+    /// Lends the frames of a method and its content, with the body where it lies, for a write that takes several slices:
+    /// as [`StreamEnd::send_content`] sends them, and without the copy. They count as put and as written, so the caller
+    /// writes all of them before anything else; where the stream stops half-way, the connection is lost.
+    ///
+    ///     let mut frames = end.lend_content(channel, &method, &properties, &body, &mut octets)?;
+    ///     while !frames.is_empty() {
+    ///         let written = socket.write_vectored(&slices_of(frames))?;
+    ///         frames.wrote(written);
+    ///     }
+    ///
+    /// What stands around the parts of the body goes to `octets`, in the place of what is there: the frames of the method
+    /// and of the header, and 8 octets for each part. Nothing is lent while octets of the output wait
+    /// ([`LendFault::Waits`]).
+    pub fn lend_content<'a>(
+        &mut self,
+        channel: u16,
+        method: &Method,
+        properties: &Properties,
+        body: &'a [u8],
+        octets: &'a mut Vec<u8>,
+    ) -> Result<ContentFrames<'a>, LendFault>
+        ensures lends { has_content (method_view method.now).kind ≡ true
+            → LendsContent self.old (content_asked channel (method_view method.now) (properties_view properties.now)
+            body.now) result self.new }
+        ensures alone { has_content (method_view method.now).kind ≡ false
+            → (result ≡ Err (lend_faults.Refused AskFault.NotSendable)) × (self.new ≡ self.old) }
+    {
+        if !method.has_content() {
+            return Err(LendFault::Refused(AskFault::NotSendable));
+        }
+        octets::octets_follow();
+        fitting::frames_fit();
+        one_end::ask_is_of_history();
+        streaming::alike_ends_ask_alike();
+        streaming::alike_endpoints_stay_alike();
+        if self.waiting_in_all() > 0 {
+            return Err(LendFault::Waits);
+        }
+        match self
+            .inner
+            .lend_content(channel, method, properties, body, octets)
+        {
+            Ok(frames) => {
+                self.octets_written = frames.add_to(self.octets_written);
+                Ok(frames)
+            }
+            Err(fault) => Err(LendFault::Refused(fault)),
+        }
     }
 
     /// Asks the other end to send contents on a channel, or no more of them.
