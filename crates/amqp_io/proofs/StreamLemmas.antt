@@ -16,3 +16,10 @@ appended_further None between after octets m n first second = second ∙ ap (λ 
 appended_further (Some known) between after octets m n first second =
     second ∙ ap (λ k. append_known k (take n (drop m octets))) first
     ∙ ap Some (append_assoc known (take m octets) (take n (drop m octets)) ∙ ap (λ l. known ++ l) (sym (take-add m n octets)))
+
+-- a run was appended, and then another: the two together were
+pub appended_both : (before between after : Option (List ℕ)) (first second : List ℕ) → between ≡ append_known before first
+    → after ≡ append_known between second → after ≡ append_known before (first ++ second)
+appended_both None between after first second one two = two ∙ ap (λ k. append_known k second) one
+appended_both (Some known) between after first second one two =
+    two ∙ (ap (λ k. append_known k second) one ∙ ap Some (append_assoc known first second))

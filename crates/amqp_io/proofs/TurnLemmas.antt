@@ -42,7 +42,7 @@ none_due limit count old output output_is count_is none =
 
 -- A push that failed answers so, and one that did not answers Ok.
 
-ok_no_fault : {A : Type 0} (value : A) (fault : IoFault) → ◌≡◌ {A = Result A IoFault} (Ok value) (Err fault) → ⊥
+pub ok_no_fault : {A : Type 0} (value : A) (fault : IoFault) → ◌≡◌ {A = Result A IoFault} (Ok value) (Err fault) → ⊥
 ok_no_fault value fault e = cc
 
 pub marks_failure : {A : Type 0} (failed : Bool) (before after : ℕ) → failed ≡ true → Marks (failed ≡ true) before after

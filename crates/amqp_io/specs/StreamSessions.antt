@@ -1,6 +1,6 @@
 -- What a session whose end lends reads and writes. Read before: what one read gives (`Refilling`), what a push makes of
 -- the output (`Sessions`), and when a stream's marks change (`Streams`).
-use Rattle.std.specs.Prelude.{◌≡◌, ◌≤◌, ◌<◌, ℕ, List, length, take, Result, Ok, Err}
+use Rattle.std.specs.Prelude.{◌≡◌, ◌≤◌, ◌<◌, ℕ, List, [], ◌++◌, length, take, Result, Ok, Err, OnOk}
 use Rattle.std.specs.Borrow.{Bor}
 use Rattle.std.specs.Io.KnownBytes.{append_known}
 use Rattle.amqp_model.specs.Output.Outputs.{after_writing, output_octets}
@@ -75,6 +75,26 @@ pub record PushedPieces {R H S : Type 0} {G : Ghosts R H} (of : stream.Ghosts S)
   pub to_give : of.to_give new.stream ≡ of.to_give old.stream
   pub no_end : of.ends new.stream ≡ of.ends old.stream
   -- It fails exactly when the write does.
+  pub failure : Marks (result ≡ Err io.Write) (of.failures old.stream) (of.failures new.stream)
+  -- The end stays.
+  pub end : new.end ≡ old.end
+
+-- The stream takes octets from the start of those that are lent, and the others are left.
+pub record PushesFrames (old left : List ℕ) (before after : Known) : Type 0 where
+  pub gone : List ℕ
+  pub parts : old ≡ gone ++ left
+  pub taken : after ≡ append_known before gone
+
+-- The frames of a content are written, from where they are lent.
+pub record PushedFrames {A R H S : Type 0} {G : Ghosts R H} (of : stream.Ghosts S) (old : StreamSession R S H G)
+    (frames : List ℕ) (result : Result A IoFault) (new : StreamSession R S H G) (left : List ℕ) : Type 0 where
+  -- The stream takes all of them, or those before the write that fails.
+  pub pushed : PushesFrames frames left (of.taken old.stream) (of.taken new.stream)
+  pub all : OnOk result (left ≡ [])
+  -- Nothing is read.
+  pub to_give : of.to_give new.stream ≡ of.to_give old.stream
+  pub no_end : of.ends new.stream ≡ of.ends old.stream
+  -- It fails exactly when a write does.
   pub failure : Marks (result ≡ Err io.Write) (of.failures old.stream) (of.failures new.stream)
   -- The end stays.
   pub end : new.end ≡ old.end

@@ -1,13 +1,14 @@
 //! One end of a connection whose events lend, over a stream.
 ghost use Rattle.std.specs.Prelude.{◌≡◌, ◌<◌, length};
-ghost use Rattle.amqp_io.specs.StreamSessions.{Pulled, Pushed, PushedPieces};
+ghost use Rattle.amqp_outbox.specs.LentFrames.{content_left};
+ghost use Rattle.amqp_io.specs.StreamSessions.{Pulled, Pushed, PushedFrames, PushedPieces};
 
 use crate::faults::IoFault;
 use crate::reading::{Arrival, read_once};
 use crate::stream::Stream;
-use crate::vectored::write_pieces;
+use crate::vectored::{write_content, write_pieces};
 use crate::writing::write_prefix;
-use amqp_core::{Role, SendQueue, StreamEnd};
+use amqp_core::{ContentFrames, Role, SendQueue, StreamEnd};
 
 /// One end of a connection whose events lend, over a stream.
 ///
@@ -81,5 +82,23 @@ impl<R: Role, S: Stream> StreamSession<R, S> {
             }
             _ => Err(IoFault::Write),
         }
+    }
+
+    /// Writes the frames of a content that the end lends, in as many writes as it takes. Where a write fails `frames` has
+    /// what is left, which is to be written before anything else.
+    ///
+    ///     session.push(usize::MAX)?;
+    ///     let mut frames = session.end.lend_content(channel, &method, &properties, &body, &mut octets)?;
+    ///     session.push_frames(&mut frames)?;
+    pub fn push_frames(&mut self, frames: &mut ContentFrames<'_>) -> Result<(), IoFault>
+        ensures { PushedFrames S.Stream self.old (content_left frames.old) result self.new (content_left frames.new) }
+    {
+        while !frames.is_empty() {
+            match write_content(&mut self.stream, frames) {
+                Ok(count) if count > 0 => frames.wrote(count),
+                _ => return Err(IoFault::Write),
+            }
+        }
+        Ok(())
     }
 }

@@ -4,8 +4,9 @@ ghost use Rattle.std.specs.Prelude.{◌<◌, ◌≤◌, length, IfOk};
 use crate::ends::server;
 use crate::octets::octets_of;
 use crate::scripts::script_of;
-use amqp_core::{EventRef, Phase, SendQueue, Server, StreamEnd};
+use amqp_core::{AskFault, EventRef, LendFault, Phase, SendQueue, Server, StreamEnd};
 use amqp_io::{IoFault, Script, StreamSession};
+use amqp_method::{Method, Properties, read_method};
 use std::alloc::Global;
 use std::process::Abort;
 use std::test::Fail;
@@ -162,4 +163,148 @@ fn pieces_of_a_queue_are_written_in_parts(rt: HostRuntime) -> Result<(), Fail> {
     drop(session);
     drop(queue);
     assertion
+}
+
+/// basic.deliver with empty texts and the delivery tag 1.
+static DELIVER: [u8; 16] = *b"\x00\x3c\x00\x3c\x00\0\0\0\0\0\0\0\x01\x00\x00\x00";
+
+/// It in a frame, a header that announces ten octets, and one body frame.
+const LENT: &str = "start tune open-ok channel-opened
+    01000100000010003c003c000000000000000001000000ce
+    0200010000000e003c0000000000000000000a0000ce
+    0300010000000a6162636465666768696ace";
+
+/// Reads what a client asks first, and feeds it.
+fn open_first(alloc: Global, session: &mut StreamSession<Server, Script>) -> Result<(), Fail> {
+    let mut room = vec![in alloc; 0; 1000]?;
+    let mut heard = Heard {
+        body: Vec::new(alloc),
+        contents: 0,
+    };
+    let piece = session.pull(&mut room)?;
+    hear(&mut session.end, piece, &mut heard)
+}
+
+fn assert_lent(
+    rt: &impl Abort,
+    alloc: Global,
+    session: &mut StreamSession<Server, Script>,
+) -> Result<(), Fail> {
+    let deliver = read_method(alloc, &DELIVER)?;
+    let flow = read_method(alloc, b"\x00\x14\x00\x14\x01")?;
+    let properties = Properties::default();
+    let mut octets = Vec::new(alloc);
+    open_first(alloc, session)?;
+    assert!(rt; waits(session, &deliver, &mut octets));
+    session.push(usize::MAX)?;
+    assert!(rt; refusal(session, 1, &flow, &mut octets) == Some(AskFault::NotSendable));
+    assert!(rt; refusal(session, 2, &deliver, &mut octets) == Some(AskFault::NotOpen));
+    let mut frames = session
+        .end
+        .lend_content(1, &deliver, &properties, b"abcdefghij", &mut octets)?;
+    assert!(rt; session.end.output().is_empty());
+    assert!(rt; session.push_frames(&mut frames) == Err(IoFault::Write));
+    assert!(rt; session.push_frames(&mut frames) == Err(IoFault::Write));
+    assert!(rt; !frames.is_empty());
+    assert!(rt; session.push_frames(&mut frames) == Ok(()));
+    assert!(rt; frames.is_empty());
+    let lent = octets_of(alloc, LENT)?;
+    assert!(rt; session.stream.written() == lent.as_slice());
+    Ok(())
+}
+
+/// Whether a content isn't lent, since octets wait.
+fn waits(
+    session: &mut StreamSession<Server, Script>,
+    method: &Method,
+    octets: &mut Vec<u8>,
+) -> bool {
+    let properties = Properties::default();
+    let lent = session
+        .end
+        .lend_content(1, method, &properties, b"", octets);
+    match lent {
+        Err(LendFault::Waits) => true,
+        _ => false,
+    }
+}
+
+/// Why a content is refused.
+fn refusal(
+    session: &mut StreamSession<Server, Script>,
+    channel: u16,
+    method: &Method,
+    octets: &mut Vec<u8>,
+) -> Option<AskFault> {
+    let properties = Properties::default();
+    match session
+        .end
+        .lend_content(channel, method, &properties, b"", octets)
+    {
+        Err(LendFault::Refused(fault)) => Some(fault),
+        _ => None,
+    }
+}
+
+/// The replies are written at once; of the frames the stream takes five octets, fails, and takes nothing, and then all
+/// of each slice that it is given.
+#[test]
+fn lent_contents_are_written_in_parts(rt: HostRuntime) -> Result<(), Fail> {
+    let alloc = rt.alloc();
+    let stream = script_of(alloc, ASKS, "1000 1000 5 fail 0")?;
+    let end = server(alloc)?.into_stream();
+    let mut session = StreamSession { end, stream };
+    let assertion = assert_lent(&rt, alloc, &mut session);
+    drop(session);
+    assertion
+}
+
+/// Writes a content that is lent, and the same content that is sent.
+fn assert_alike(
+    rt: &impl Abort,
+    alloc: Global,
+    body: &[u8],
+    lending: &mut StreamSession<Server, Script>,
+    sending: &mut StreamSession<Server, Script>,
+) -> Result<(), Fail> {
+    let deliver = read_method(alloc, &DELIVER)?;
+    let properties = Properties::default();
+    let mut octets = Vec::new(alloc);
+    open_first(alloc, lending)?;
+    lending.push(usize::MAX)?;
+    let mut frames = lending
+        .end
+        .lend_content(1, &deliver, &properties, body, &mut octets)?;
+    lending.push_frames(&mut frames)?;
+    open_first(alloc, sending)?;
+    sending.end.send_content(1, &deliver, &properties, body)?;
+    sending.push(usize::MAX)?;
+    assert!(rt; lending.stream.written() == sending.stream.written());
+    assert!(rt; lending.stream.written().len() > body.len());
+    Ok(())
+}
+
+fn assert_length(rt: &impl Abort, alloc: Global, length: usize) -> Result<(), Fail> {
+    let body = vec![in alloc; b'x'; length]?;
+    let mut lending = StreamSession {
+        end: server(alloc)?.into_stream(),
+        stream: script_of(alloc, ASKS, "")?,
+    };
+    let mut sending = StreamSession {
+        end: server(alloc)?.into_stream(),
+        stream: script_of(alloc, ASKS, "")?,
+    };
+    let assertion = assert_alike(rt, alloc, &body, &mut lending, &mut sending);
+    drop(lending);
+    drop(sending);
+    assertion
+}
+
+#[test]
+fn lent_contents_are_those_that_are_sent(rt: HostRuntime) -> Result<(), Fail> {
+    let alloc = rt.alloc();
+    for length in [0, 1, 4_087, 4_088, 4_089, 131_064, 131_065, 500_000] {
+        assert_length(&rt, alloc, length)?;
+    }
+    Ok(())
 }
