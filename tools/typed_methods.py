@@ -402,25 +402,16 @@ def from_method_of(method):
             "        }",
         ]
         return lines + ["    }", ""]
-    names = [field.name for field in method.fields]
     # a `match`, and no `?`: that would call the conversion of errors, and be proved with it
     lines += [f"        match own_args(method, Kind::{method.kind}) {{", "            Ok(args) => {"]
-    lines += taken_apart("                ", names, COUNTS[len(names)])
-    body = [f"{field.name}: {field.helper}({field.name})" for field in method.fields]
+    count = len(method.fields)
+    # no name for each argument: each local of a function is in the proof of each of its steps
+    lines.append(f"                let taken = {COUNTS[count]}(args);")
+    places = ["taken"] if count == 1 else [f"taken.{place}" for place in range(count)]
+    body = [f"{field.name}: {field.helper}({place})" for field, place in zip(method.fields, places)]
     lines += literal("                ", method.name, body, ")", "Ok(")
     lines += ["            }", "            Err(method) => Err(method),", "        }"]
     return lines + ["    }", ""]
-
-
-def taken_apart(indent, names, function):
-    """A line that names the arguments of an array, or several, where one is too short."""
-    pattern = names[0] if len(names) == 1 else f"({', '.join(names)})"
-    start = f"{indent}let {pattern} = {function}("
-    if len(start) + len("args);") <= 100:
-        return [f"{start}args);"]
-    if len(start) <= 100:
-        return [start, f"{indent}    args,", f"{indent});"]
-    return [f"{indent}let ("] + [f"{indent}    {name}," for name in names] + [f"{indent}) = {function}(args);"]
 
 
 def from_ref_of(method):
@@ -821,7 +812,7 @@ def view_answer(method, struct):
 def owned_answer(method):
     """Of which kind each argument is, and that what is taken apart is all that the method says."""
     count = len(method.fields)
-    taken = f"c.{COUNTS[count]}-{method.fields[0].name}.ensures"
+    taken = f"c.{COUNTS[count]}-taken.ensures"
     names = steps_in_ok(method.fields)
     lines = []
     if count == 1:

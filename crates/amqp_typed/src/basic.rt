@@ -171,17 +171,15 @@ impl Consume {
     {
         match own_args(method, Kind::BasicConsume) {
             Ok(args) => {
-                let (queue, consumer_tag, no_local, no_ack, exclusive, no_wait, arguments) = seven(
-                    args,
-                );
+                let taken = seven(args);
                 Ok(Consume {
-                    queue: short_str(queue),
-                    consumer_tag: short_str(consumer_tag),
-                    no_local: bit(no_local),
-                    no_ack: bit(no_ack),
-                    exclusive: bit(exclusive),
-                    no_wait: bit(no_wait),
-                    arguments: table(arguments),
+                    queue: short_str(taken.0),
+                    consumer_tag: short_str(taken.1),
+                    no_local: bit(taken.2),
+                    no_ack: bit(taken.3),
+                    exclusive: bit(taken.4),
+                    no_wait: bit(taken.5),
+                    arguments: table(taken.6),
                 })
             }
             Err(method) => Err(method),
@@ -288,9 +286,9 @@ impl ConsumeOk {
     {
         match own_args(method, Kind::BasicConsumeOk) {
             Ok(args) => {
-                let consumer_tag = one(args);
+                let taken = one(args);
                 Ok(ConsumeOk {
-                    consumer_tag: short_str(consumer_tag),
+                    consumer_tag: short_str(taken),
                 })
             }
             Err(method) => Err(method),
@@ -379,10 +377,10 @@ impl Cancel {
     {
         match own_args(method, Kind::BasicCancel) {
             Ok(args) => {
-                let (consumer_tag, no_wait) = two(args);
+                let taken = two(args);
                 Ok(Cancel {
-                    consumer_tag: short_str(consumer_tag),
-                    no_wait: bit(no_wait),
+                    consumer_tag: short_str(taken.0),
+                    no_wait: bit(taken.1),
                 })
             }
             Err(method) => Err(method),
@@ -469,9 +467,9 @@ impl CancelOk {
     {
         match own_args(method, Kind::BasicCancelOk) {
             Ok(args) => {
-                let consumer_tag = one(args);
+                let taken = one(args);
                 Ok(CancelOk {
-                    consumer_tag: short_str(consumer_tag),
+                    consumer_tag: short_str(taken),
                 })
             }
             Err(method) => Err(method),
@@ -584,12 +582,12 @@ impl Publish {
     {
         match own_args(method, Kind::BasicPublish) {
             Ok(args) => {
-                let (exchange, routing_key, mandatory, immediate) = four(args);
+                let taken = four(args);
                 Ok(Publish {
-                    exchange: short_str(exchange),
-                    routing_key: short_str(routing_key),
-                    mandatory: bit(mandatory),
-                    immediate: bit(immediate),
+                    exchange: short_str(taken.0),
+                    routing_key: short_str(taken.1),
+                    mandatory: bit(taken.2),
+                    immediate: bit(taken.3),
                 })
             }
             Err(method) => Err(method),
@@ -717,12 +715,12 @@ impl Return {
     {
         match own_args(method, Kind::BasicReturn) {
             Ok(args) => {
-                let (reply_code, reply_text, exchange, routing_key) = four(args);
+                let taken = four(args);
                 Ok(Return {
-                    reply_code: short(reply_code),
-                    reply_text: short_str(reply_text),
-                    exchange: short_str(exchange),
-                    routing_key: short_str(routing_key),
+                    reply_code: short(taken.0),
+                    reply_text: short_str(taken.1),
+                    exchange: short_str(taken.2),
+                    routing_key: short_str(taken.3),
                 })
             }
             Err(method) => Err(method),
@@ -855,13 +853,13 @@ impl Deliver {
     {
         match own_args(method, Kind::BasicDeliver) {
             Ok(args) => {
-                let (consumer_tag, delivery_tag, redelivered, exchange, routing_key) = five(args);
+                let taken = five(args);
                 Ok(Deliver {
-                    consumer_tag: short_str(consumer_tag),
-                    delivery_tag: long_long(delivery_tag),
-                    redelivered: bit(redelivered),
-                    exchange: short_str(exchange),
-                    routing_key: short_str(routing_key),
+                    consumer_tag: short_str(taken.0),
+                    delivery_tag: long_long(taken.1),
+                    redelivered: bit(taken.2),
+                    exchange: short_str(taken.3),
+                    routing_key: short_str(taken.4),
                 })
             }
             Err(method) => Err(method),
@@ -965,10 +963,10 @@ impl Get {
     {
         match own_args(method, Kind::BasicGet) {
             Ok(args) => {
-                let (queue, no_ack) = two(args);
+                let taken = two(args);
                 Ok(Get {
-                    queue: short_str(queue),
-                    no_ack: bit(no_ack),
+                    queue: short_str(taken.0),
+                    no_ack: bit(taken.1),
                 })
             }
             Err(method) => Err(method),
@@ -1094,13 +1092,13 @@ impl GetOk {
     {
         match own_args(method, Kind::BasicGetOk) {
             Ok(args) => {
-                let (delivery_tag, redelivered, exchange, routing_key, message_count) = five(args);
+                let taken = five(args);
                 Ok(GetOk {
-                    delivery_tag: long_long(delivery_tag),
-                    redelivered: bit(redelivered),
-                    exchange: short_str(exchange),
-                    routing_key: short_str(routing_key),
-                    message_count: long(message_count),
+                    delivery_tag: long_long(taken.0),
+                    redelivered: bit(taken.1),
+                    exchange: short_str(taken.2),
+                    routing_key: short_str(taken.3),
+                    message_count: long(taken.4),
                 })
             }
             Err(method) => Err(method),

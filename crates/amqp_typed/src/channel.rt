@@ -196,12 +196,12 @@ impl Close {
     {
         match own_args(method, Kind::ChannelClose) {
             Ok(args) => {
-                let (reply_code, reply_text, class_id, method_id) = four(args);
+                let taken = four(args);
                 Ok(Close {
-                    reply_code: short(reply_code),
-                    reply_text: short_str(reply_text),
-                    class_id: short(class_id),
-                    method_id: short(method_id),
+                    reply_code: short(taken.0),
+                    reply_text: short_str(taken.1),
+                    class_id: short(taken.2),
+                    method_id: short(taken.3),
                 })
             }
             Err(method) => Err(method),

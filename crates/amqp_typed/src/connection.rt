@@ -75,15 +75,13 @@ impl Start {
     {
         match own_args(method, Kind::ConnectionStart) {
             Ok(args) => {
-                let (version_major, version_minor, server_properties, mechanisms, locales) = five(
-                    args,
-                );
+                let taken = five(args);
                 Ok(Start {
-                    version_major: octet(version_major),
-                    version_minor: octet(version_minor),
-                    server_properties: table(server_properties),
-                    mechanisms: long_str(mechanisms),
-                    locales: long_str(locales),
+                    version_major: octet(taken.0),
+                    version_minor: octet(taken.1),
+                    server_properties: table(taken.2),
+                    mechanisms: long_str(taken.3),
+                    locales: long_str(taken.4),
                 })
             }
             Err(method) => Err(method),
@@ -199,12 +197,12 @@ impl StartOk {
     {
         match own_args(method, Kind::ConnectionStartOk) {
             Ok(args) => {
-                let (client_properties, mechanism, response, locale) = four(args);
+                let taken = four(args);
                 Ok(StartOk {
-                    client_properties: table(client_properties),
-                    mechanism: short_str(mechanism),
-                    response: long_str(response),
-                    locale: short_str(locale),
+                    client_properties: table(taken.0),
+                    mechanism: short_str(taken.1),
+                    response: long_str(taken.2),
+                    locale: short_str(taken.3),
                 })
             }
             Err(method) => Err(method),
@@ -300,9 +298,9 @@ impl Secure {
     {
         match own_args(method, Kind::ConnectionSecure) {
             Ok(args) => {
-                let challenge = one(args);
+                let taken = one(args);
                 Ok(Secure {
-                    challenge: long_str(challenge),
+                    challenge: long_str(taken),
                 })
             }
             Err(method) => Err(method),
@@ -387,9 +385,9 @@ impl SecureOk {
     {
         match own_args(method, Kind::ConnectionSecureOk) {
             Ok(args) => {
-                let response = one(args);
+                let taken = one(args);
                 Ok(SecureOk {
-                    response: long_str(response),
+                    response: long_str(taken),
                 })
             }
             Err(method) => Err(method),
@@ -636,9 +634,9 @@ impl Open {
     {
         match own_args(method, Kind::ConnectionOpen) {
             Ok(args) => {
-                let virtual_host = one(args);
+                let taken = one(args);
                 Ok(Open {
-                    virtual_host: short_str(virtual_host),
+                    virtual_host: short_str(taken),
                 })
             }
             Err(method) => Err(method),
@@ -740,12 +738,12 @@ impl Close {
     {
         match own_args(method, Kind::ConnectionClose) {
             Ok(args) => {
-                let (reply_code, reply_text, class_id, method_id) = four(args);
+                let taken = four(args);
                 Ok(Close {
-                    reply_code: short(reply_code),
-                    reply_text: short_str(reply_text),
-                    class_id: short(class_id),
-                    method_id: short(method_id),
+                    reply_code: short(taken.0),
+                    reply_text: short_str(taken.1),
+                    class_id: short(taken.2),
+                    method_id: short(taken.3),
                 })
             }
             Err(method) => Err(method),
@@ -839,9 +837,9 @@ impl Blocked {
     {
         match own_args(method, Kind::ConnectionBlocked) {
             Ok(args) => {
-                let reason = one(args);
+                let taken = one(args);
                 Ok(Blocked {
-                    reason: short_str(reason),
+                    reason: short_str(taken),
                 })
             }
             Err(method) => Err(method),

@@ -88,25 +88,16 @@ impl Declare {
     {
         match own_args(method, Kind::ExchangeDeclare) {
             Ok(args) => {
-                let (
-                    exchange,
-                    type_name,
-                    passive,
-                    durable,
-                    auto_delete,
-                    internal,
-                    no_wait,
-                    arguments,
-                ) = eight(args);
+                let taken = eight(args);
                 Ok(Declare {
-                    exchange: short_str(exchange),
-                    type_name: short_str(type_name),
-                    passive: bit(passive),
-                    durable: bit(durable),
-                    auto_delete: bit(auto_delete),
-                    internal: bit(internal),
-                    no_wait: bit(no_wait),
-                    arguments: table(arguments),
+                    exchange: short_str(taken.0),
+                    type_name: short_str(taken.1),
+                    passive: bit(taken.2),
+                    durable: bit(taken.3),
+                    auto_delete: bit(taken.4),
+                    internal: bit(taken.5),
+                    no_wait: bit(taken.6),
+                    arguments: table(taken.7),
                 })
             }
             Err(method) => Err(method),
@@ -233,11 +224,11 @@ impl Delete {
     {
         match own_args(method, Kind::ExchangeDelete) {
             Ok(args) => {
-                let (exchange, if_unused, no_wait) = three(args);
+                let taken = three(args);
                 Ok(Delete {
-                    exchange: short_str(exchange),
-                    if_unused: bit(if_unused),
-                    no_wait: bit(no_wait),
+                    exchange: short_str(taken.0),
+                    if_unused: bit(taken.1),
+                    no_wait: bit(taken.2),
                 })
             }
             Err(method) => Err(method),
@@ -357,13 +348,13 @@ impl Bind {
     {
         match own_args(method, Kind::ExchangeBind) {
             Ok(args) => {
-                let (destination, source, routing_key, no_wait, arguments) = five(args);
+                let taken = five(args);
                 Ok(Bind {
-                    destination: short_str(destination),
-                    source: short_str(source),
-                    routing_key: short_str(routing_key),
-                    no_wait: bit(no_wait),
-                    arguments: table(arguments),
+                    destination: short_str(taken.0),
+                    source: short_str(taken.1),
+                    routing_key: short_str(taken.2),
+                    no_wait: bit(taken.3),
+                    arguments: table(taken.4),
                 })
             }
             Err(method) => Err(method),
@@ -491,13 +482,13 @@ impl Unbind {
     {
         match own_args(method, Kind::ExchangeUnbind) {
             Ok(args) => {
-                let (destination, source, routing_key, no_wait, arguments) = five(args);
+                let taken = five(args);
                 Ok(Unbind {
-                    destination: short_str(destination),
-                    source: short_str(source),
-                    routing_key: short_str(routing_key),
-                    no_wait: bit(no_wait),
-                    arguments: table(arguments),
+                    destination: short_str(taken.0),
+                    source: short_str(taken.1),
+                    routing_key: short_str(taken.2),
+                    no_wait: bit(taken.3),
+                    arguments: table(taken.4),
                 })
             }
             Err(method) => Err(method),

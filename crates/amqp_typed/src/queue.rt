@@ -84,17 +84,15 @@ impl Declare {
     {
         match own_args(method, Kind::QueueDeclare) {
             Ok(args) => {
-                let (queue, passive, durable, exclusive, auto_delete, no_wait, arguments) = seven(
-                    args,
-                );
+                let taken = seven(args);
                 Ok(Declare {
-                    queue: short_str(queue),
-                    passive: bit(passive),
-                    durable: bit(durable),
-                    exclusive: bit(exclusive),
-                    auto_delete: bit(auto_delete),
-                    no_wait: bit(no_wait),
-                    arguments: table(arguments),
+                    queue: short_str(taken.0),
+                    passive: bit(taken.1),
+                    durable: bit(taken.2),
+                    exclusive: bit(taken.3),
+                    auto_delete: bit(taken.4),
+                    no_wait: bit(taken.5),
+                    arguments: table(taken.6),
                 })
             }
             Err(method) => Err(method),
@@ -213,11 +211,11 @@ impl DeclareOk {
     {
         match own_args(method, Kind::QueueDeclareOk) {
             Ok(args) => {
-                let (queue, message_count, consumer_count) = three(args);
+                let taken = three(args);
                 Ok(DeclareOk {
-                    queue: short_str(queue),
-                    message_count: long(message_count),
-                    consumer_count: long(consumer_count),
+                    queue: short_str(taken.0),
+                    message_count: long(taken.1),
+                    consumer_count: long(taken.2),
                 })
             }
             Err(method) => Err(method),
@@ -327,13 +325,13 @@ impl Bind {
     {
         match own_args(method, Kind::QueueBind) {
             Ok(args) => {
-                let (queue, exchange, routing_key, no_wait, arguments) = five(args);
+                let taken = five(args);
                 Ok(Bind {
-                    queue: short_str(queue),
-                    exchange: short_str(exchange),
-                    routing_key: short_str(routing_key),
-                    no_wait: bit(no_wait),
-                    arguments: table(arguments),
+                    queue: short_str(taken.0),
+                    exchange: short_str(taken.1),
+                    routing_key: short_str(taken.2),
+                    no_wait: bit(taken.3),
+                    arguments: table(taken.4),
                 })
             }
             Err(method) => Err(method),
@@ -450,12 +448,12 @@ impl Unbind {
     {
         match own_args(method, Kind::QueueUnbind) {
             Ok(args) => {
-                let (queue, exchange, routing_key, arguments) = four(args);
+                let taken = four(args);
                 Ok(Unbind {
-                    queue: short_str(queue),
-                    exchange: short_str(exchange),
-                    routing_key: short_str(routing_key),
-                    arguments: table(arguments),
+                    queue: short_str(taken.0),
+                    exchange: short_str(taken.1),
+                    routing_key: short_str(taken.2),
+                    arguments: table(taken.3),
                 })
             }
             Err(method) => Err(method),
@@ -558,10 +556,10 @@ impl Purge {
     {
         match own_args(method, Kind::QueuePurge) {
             Ok(args) => {
-                let (queue, no_wait) = two(args);
+                let taken = two(args);
                 Ok(Purge {
-                    queue: short_str(queue),
-                    no_wait: bit(no_wait),
+                    queue: short_str(taken.0),
+                    no_wait: bit(taken.1),
                 })
             }
             Err(method) => Err(method),
@@ -725,12 +723,12 @@ impl Delete {
     {
         match own_args(method, Kind::QueueDelete) {
             Ok(args) => {
-                let (queue, if_unused, if_empty, no_wait) = four(args);
+                let taken = four(args);
                 Ok(Delete {
-                    queue: short_str(queue),
-                    if_unused: bit(if_unused),
-                    if_empty: bit(if_empty),
-                    no_wait: bit(no_wait),
+                    queue: short_str(taken.0),
+                    if_unused: bit(taken.1),
+                    if_empty: bit(taken.2),
+                    no_wait: bit(taken.3),
                 })
             }
             Err(method) => Err(method),

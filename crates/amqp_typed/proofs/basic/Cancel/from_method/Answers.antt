@@ -3,12 +3,12 @@ use Rattle.amqp_method.specs.declared.kinds.Kind.TheVariants.{BasicCancel}
 use Rattle.amqp_typed.proofs.basic.Cancel.from_method.Goals as goal
 
 pub short_str-requires : goal.short_str-requires
-short_str-requires c = (kinds_2 (kinds_in BasicCancel c.in-Ok.args _ c.in-Ok.ensures.fit c.two-consumer_tag.ensures)).0
+short_str-requires c = (kinds_2 (kinds_in BasicCancel c.in-Ok.args _ c.in-Ok.ensures.fit c.two-taken.ensures)).0
 
 pub bit-requires : goal.bit-requires
-bit-requires c = (kinds_2 (kinds_in BasicCancel c.in-Ok.args _ c.in-Ok.ensures.fit c.two-consumer_tag.ensures)).1
+bit-requires c = (kinds_2 (kinds_in BasicCancel c.in-Ok.args _ c.in-Ok.ensures.fit c.two-taken.ensures)).1
 
 pub returns-in-Ok-clause-args : goal.returns-in-Ok-clause-args
 returns-in-Ok-clause-args c =
-    made_2 _ BasicCancel c.in-Ok.args c.in-Ok.ensures.args c.two-consumer_tag.ensures
+    made_2 _ BasicCancel c.in-Ok.args c.in-Ok.ensures.args c.two-taken.ensures
     c.short_str.ensures c.bit.ensures

@@ -3,21 +3,21 @@ use Rattle.amqp_method.specs.declared.kinds.Kind.TheVariants.{BasicDeliver}
 use Rattle.amqp_typed.proofs.basic.Deliver.from_method.Goals as goal
 
 pub short_str-requires : goal.short_str-requires
-short_str-requires c = (kinds_5 (kinds_in BasicDeliver c.in-Ok.args _ c.in-Ok.ensures.fit c.five-consumer_tag.ensures)).0
+short_str-requires c = (kinds_5 (kinds_in BasicDeliver c.in-Ok.args _ c.in-Ok.ensures.fit c.five-taken.ensures)).0
 
 pub long_long-requires : goal.long_long-requires
-long_long-requires c = (kinds_5 (kinds_in BasicDeliver c.in-Ok.args _ c.in-Ok.ensures.fit c.five-consumer_tag.ensures)).1
+long_long-requires c = (kinds_5 (kinds_in BasicDeliver c.in-Ok.args _ c.in-Ok.ensures.fit c.five-taken.ensures)).1
 
 pub bit-requires : goal.bit-requires
-bit-requires c = (kinds_5 (kinds_in BasicDeliver c.in-Ok.args _ c.in-Ok.ensures.fit c.five-consumer_tag.ensures)).2
+bit-requires c = (kinds_5 (kinds_in BasicDeliver c.in-Ok.args _ c.in-Ok.ensures.fit c.five-taken.ensures)).2
 
 pub short_str-requires-in-Ok : goal.short_str-requires-in-Ok
-short_str-requires-in-Ok c = (kinds_5 (kinds_in BasicDeliver c.in-Ok.args _ c.in-Ok.ensures.fit c.five-consumer_tag.ensures)).3
+short_str-requires-in-Ok c = (kinds_5 (kinds_in BasicDeliver c.in-Ok.args _ c.in-Ok.ensures.fit c.five-taken.ensures)).3
 
 pub short_str-requires-in-Ok-2 : goal.short_str-requires-in-Ok-2
-short_str-requires-in-Ok-2 c = (kinds_5 (kinds_in BasicDeliver c.in-Ok.args _ c.in-Ok.ensures.fit c.five-consumer_tag.ensures)).4
+short_str-requires-in-Ok-2 c = (kinds_5 (kinds_in BasicDeliver c.in-Ok.args _ c.in-Ok.ensures.fit c.five-taken.ensures)).4
 
 pub returns-in-Ok-clause-args : goal.returns-in-Ok-clause-args
 returns-in-Ok-clause-args c =
-    made_5 _ BasicDeliver c.in-Ok.args c.in-Ok.ensures.args c.five-consumer_tag.ensures
+    made_5 _ BasicDeliver c.in-Ok.args c.in-Ok.ensures.args c.five-taken.ensures
     c.short_str.ensures c.long_long.ensures c.bit.ensures c.short_str-in-Ok.ensures c.short_str-in-Ok-2.ensures

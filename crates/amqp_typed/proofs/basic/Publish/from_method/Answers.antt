@@ -3,18 +3,18 @@ use Rattle.amqp_method.specs.declared.kinds.Kind.TheVariants.{BasicPublish}
 use Rattle.amqp_typed.proofs.basic.Publish.from_method.Goals as goal
 
 pub short_str-requires : goal.short_str-requires
-short_str-requires c = (kinds_4 (kinds_in BasicPublish c.in-Ok.args _ c.in-Ok.ensures.fit c.four-exchange.ensures)).0
+short_str-requires c = (kinds_4 (kinds_in BasicPublish c.in-Ok.args _ c.in-Ok.ensures.fit c.four-taken.ensures)).0
 
 pub short_str-requires-in-Ok : goal.short_str-requires-in-Ok
-short_str-requires-in-Ok c = (kinds_4 (kinds_in BasicPublish c.in-Ok.args _ c.in-Ok.ensures.fit c.four-exchange.ensures)).1
+short_str-requires-in-Ok c = (kinds_4 (kinds_in BasicPublish c.in-Ok.args _ c.in-Ok.ensures.fit c.four-taken.ensures)).1
 
 pub bit-requires : goal.bit-requires
-bit-requires c = (kinds_4 (kinds_in BasicPublish c.in-Ok.args _ c.in-Ok.ensures.fit c.four-exchange.ensures)).2
+bit-requires c = (kinds_4 (kinds_in BasicPublish c.in-Ok.args _ c.in-Ok.ensures.fit c.four-taken.ensures)).2
 
 pub bit-requires-in-Ok : goal.bit-requires-in-Ok
-bit-requires-in-Ok c = (kinds_4 (kinds_in BasicPublish c.in-Ok.args _ c.in-Ok.ensures.fit c.four-exchange.ensures)).3
+bit-requires-in-Ok c = (kinds_4 (kinds_in BasicPublish c.in-Ok.args _ c.in-Ok.ensures.fit c.four-taken.ensures)).3
 
 pub returns-in-Ok-clause-args : goal.returns-in-Ok-clause-args
 returns-in-Ok-clause-args c =
-    made_4 _ BasicPublish c.in-Ok.args c.in-Ok.ensures.args c.four-exchange.ensures
+    made_4 _ BasicPublish c.in-Ok.args c.in-Ok.ensures.args c.four-taken.ensures
     c.short_str.ensures c.short_str-in-Ok.ensures c.bit.ensures c.bit-in-Ok.ensures

@@ -3,9 +3,9 @@ use Rattle.amqp_method.specs.declared.kinds.Kind.TheVariants.{ConnectionBlocked}
 use Rattle.amqp_typed.proofs.connection.Blocked.from_method.Goals as goal
 
 pub short_str-requires : goal.short_str-requires
-short_str-requires c = kind_1 (kinds_in ConnectionBlocked c.in-Ok.args _ c.in-Ok.ensures.fit c.one-reason.ensures)
+short_str-requires c = kind_1 (kinds_in ConnectionBlocked c.in-Ok.args _ c.in-Ok.ensures.fit c.one-taken.ensures)
 
 pub returns-in-Ok-clause-args : goal.returns-in-Ok-clause-args
 returns-in-Ok-clause-args c =
-    made_1 _ ConnectionBlocked c.in-Ok.args c.in-Ok.ensures.args c.one-reason.ensures
+    made_1 _ ConnectionBlocked c.in-Ok.args c.in-Ok.ensures.args c.one-taken.ensures
     c.short_str.ensures

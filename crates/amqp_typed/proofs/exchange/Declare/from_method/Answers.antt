@@ -3,30 +3,30 @@ use Rattle.amqp_method.specs.declared.kinds.Kind.TheVariants.{ExchangeDeclare}
 use Rattle.amqp_typed.proofs.exchange.Declare.from_method.Goals as goal
 
 pub short_str-requires : goal.short_str-requires
-short_str-requires c = (kinds_8 (kinds_in ExchangeDeclare c.in-Ok.args _ c.in-Ok.ensures.fit c.eight-exchange.ensures)).0
+short_str-requires c = (kinds_8 (kinds_in ExchangeDeclare c.in-Ok.args _ c.in-Ok.ensures.fit c.eight-taken.ensures)).0
 
 pub short_str-requires-in-Ok : goal.short_str-requires-in-Ok
-short_str-requires-in-Ok c = (kinds_8 (kinds_in ExchangeDeclare c.in-Ok.args _ c.in-Ok.ensures.fit c.eight-exchange.ensures)).1
+short_str-requires-in-Ok c = (kinds_8 (kinds_in ExchangeDeclare c.in-Ok.args _ c.in-Ok.ensures.fit c.eight-taken.ensures)).1
 
 pub bit-requires : goal.bit-requires
-bit-requires c = (kinds_8 (kinds_in ExchangeDeclare c.in-Ok.args _ c.in-Ok.ensures.fit c.eight-exchange.ensures)).2
+bit-requires c = (kinds_8 (kinds_in ExchangeDeclare c.in-Ok.args _ c.in-Ok.ensures.fit c.eight-taken.ensures)).2
 
 pub bit-requires-in-Ok : goal.bit-requires-in-Ok
-bit-requires-in-Ok c = (kinds_8 (kinds_in ExchangeDeclare c.in-Ok.args _ c.in-Ok.ensures.fit c.eight-exchange.ensures)).3
+bit-requires-in-Ok c = (kinds_8 (kinds_in ExchangeDeclare c.in-Ok.args _ c.in-Ok.ensures.fit c.eight-taken.ensures)).3
 
 pub bit-requires-in-Ok-2 : goal.bit-requires-in-Ok-2
-bit-requires-in-Ok-2 c = (kinds_8 (kinds_in ExchangeDeclare c.in-Ok.args _ c.in-Ok.ensures.fit c.eight-exchange.ensures)).4
+bit-requires-in-Ok-2 c = (kinds_8 (kinds_in ExchangeDeclare c.in-Ok.args _ c.in-Ok.ensures.fit c.eight-taken.ensures)).4
 
 pub bit-requires-in-Ok-3 : goal.bit-requires-in-Ok-3
-bit-requires-in-Ok-3 c = (kinds_8 (kinds_in ExchangeDeclare c.in-Ok.args _ c.in-Ok.ensures.fit c.eight-exchange.ensures)).5
+bit-requires-in-Ok-3 c = (kinds_8 (kinds_in ExchangeDeclare c.in-Ok.args _ c.in-Ok.ensures.fit c.eight-taken.ensures)).5
 
 pub bit-requires-in-Ok-4 : goal.bit-requires-in-Ok-4
-bit-requires-in-Ok-4 c = (kinds_8 (kinds_in ExchangeDeclare c.in-Ok.args _ c.in-Ok.ensures.fit c.eight-exchange.ensures)).6
+bit-requires-in-Ok-4 c = (kinds_8 (kinds_in ExchangeDeclare c.in-Ok.args _ c.in-Ok.ensures.fit c.eight-taken.ensures)).6
 
 pub table-requires : goal.table-requires
-table-requires c = (kinds_8 (kinds_in ExchangeDeclare c.in-Ok.args _ c.in-Ok.ensures.fit c.eight-exchange.ensures)).7
+table-requires c = (kinds_8 (kinds_in ExchangeDeclare c.in-Ok.args _ c.in-Ok.ensures.fit c.eight-taken.ensures)).7
 
 pub returns-in-Ok-clause-args : goal.returns-in-Ok-clause-args
 returns-in-Ok-clause-args c =
-    made_8 _ ExchangeDeclare c.in-Ok.args c.in-Ok.ensures.args c.eight-exchange.ensures
+    made_8 _ ExchangeDeclare c.in-Ok.args c.in-Ok.ensures.args c.eight-taken.ensures
     c.short_str.ensures c.short_str-in-Ok.ensures c.bit.ensures c.bit-in-Ok.ensures c.bit-in-Ok-2.ensures c.bit-in-Ok-3.ensures c.bit-in-Ok-4.ensures c.table.ensures
