@@ -232,6 +232,12 @@ class Method:
     def is_bare(self):
         return not self.fields
 
+    def known_read(self, read):
+        """The function that reads a method that is known to be this one, or None if that which asks has to do."""
+        if self.is_bare():
+            return BARE_READS[read]
+        return "of_view" if read == "from_view" and not self.is_plain() else None
+
     def in_payload(self):
         """The struct that is read from a payload."""
         return self.name if self.is_plain() else f"{self.name}View<'a>"
@@ -423,10 +429,16 @@ def from_ref_of(method):
     return lines + lent_body(method, method.name) + ["    }", ""]
 
 
+def lent_test(method, test):
+    return [f"        if !{test}(method, Kind::{method.kind}) {{", "            return None;", "        }"]
+
+
+def lent_fields(method, suffix):
+    return [f"{field.name}: {field.helper}{suffix}(method, {place})" for place, field in enumerate(method.fields)]
+
+
 def lent_body(method, name, test="is_kind", suffix="_at"):
-    lines = [f"        if !{test}(method, Kind::{method.kind}) {{", "            return None;", "        }"]
-    body = [f"{field.name}: {field.helper}{suffix}(method, {place})" for place, field in enumerate(method.fields)]
-    return lines + literal("        ", name, body, ")", "Some(")
+    return lent_test(method, test) + literal("        ", name, lent_fields(method, suffix), ")", "Some(")
 
 
 def from_view_of(method, name, call, lifetime):
@@ -434,7 +446,19 @@ def from_view_of(method, name, call, lifetime):
     lines = ["    /// What the method says, if it is this one."]
     lines.append(f"    pub fn from_view(method: MethodRef<{lifetime}>) -> Option<{name}>")
     lines += view_clauses(method, call) + ["    {"]
-    return lines + lent_body(method, name.split("<")[0], "is_view_of", "_in") + ["    }"]
+    if method.is_plain():
+        return lines + lent_body(method, name, "is_view_of", "_in") + ["    }"]
+    short = name.split("<")[0]
+    lines += lent_test(method, "is_view_of") + [f"        Some({short}::of_view(method))", "    }", ""]
+    return lines + of_view_of(method, name, call, lifetime)
+
+
+def of_view_of(method, name, call, lifetime):
+    """Read from a method that is known to be this one."""
+    lines = ["    /// What a method of this kind says.", f"    fn of_view(method: MethodRef<{lifetime}>) -> {name}"]
+    lines.append(f"        requires {{ Fits (lent_call method) × ((lent_call method).kind ≡ {method.kind}) }}")
+    lines += [clause("", f"{call}_call result ≡ lent_call method.entry"), "    {"]
+    return lines + literal("        ", name.split("<")[0], lent_fields(method, "_in"), "") + ["    }"]
 
 
 def view_clauses(method, name):
@@ -536,7 +560,8 @@ def class_file(name, all_methods):
         lines.append("ghost use Rattle.amqp_value.specs.Values.{no_pairs};")
     arguments = [row[4] for row in KINDS.values() if re.search(rf"[(∷] ?{row[4]}\b", clauses)]
     if arguments:
-        lines.append(f"ghost use Rattle.amqp_method.specs.Arguments.{{{', '.join(['call'] + arguments)}}};")
+        words = ["call"] + (["Fits"] if "Fits" in code else []) + arguments
+        lines.append(f"ghost use Rattle.amqp_method.specs.Arguments.{{{', '.join(words)}}};")
     if "properties_view" in clauses:
         lines.append("ghost use Rattle.amqp_method.specs.HeaderView.{properties_view};")
         lines.append("ghost use Rattle.amqp_method.specs.MessageView.{message_view};")
@@ -556,7 +581,7 @@ def class_file(name, all_methods):
     helpers = sorted(word for word in [row[3] for row in KINDS.values()] + [row[3] + "_at" for row in KINDS.values()] + list(COUNTS.values()) + ["bare_method", "is_kind", "method_of", "own_args"] if re.search(rf"(?<![\w.:]){word}(\(|::<)", code))
     if helpers:
         lines += use_lines("crate::args", helpers)
-    views = [row[3] + "_in" for row in KINDS.values()] + ["is_view_of"]
+    views = [row[3] + "_in" for row in KINDS.values()] + ["is_view_of", "kind_in"]
     in_payload = sorted(word for word in views if re.search(rf"(?<![\w.:]){word}\(", code))
     bare = [method.kind for method in of_class if method.is_bare()]
     if bare:
@@ -645,11 +670,18 @@ def view_of_class(enum, call, lifetime, of_class):
 
 def read_of_class(enum, read, structs):
     """A body that reads the method as the struct of its kind."""
-    lines = ["    {", "        match method.kind() {"]
+    asked = asked_kind(read, [method for method, _ in structs])
+    lines = ["    {", f"        match {'kind_in(method)' if asked == 'kind_in' else 'method.kind()'} {{"]
     for method, struct in structs:
-        known = f"{struct}::{BARE_READS[read]}(method)" if method.is_bare() else f"{struct}::{read}(method).unwrap()"
+        word = method.known_read(read)
+        known = f"{struct}::{word}(method)" if word else f"{struct}::{read}(method).unwrap()"
         lines += arm(f"Kind::{method.kind}", f"{enum}::{method.name}({known})", "            ")
     return lines + ["            _ => unreachable!(),", "        }", "    }"]
+
+
+def asked_kind(read, of_class):
+    """What tells the kind: in a payload, that the arguments fit it as well, where a struct needs that."""
+    return "kind_in" if read == "from_view" and not is_plain(of_class) else "kind"
 
 
 def use_lines(path, names):
@@ -790,10 +822,7 @@ def lent_answer(method, struct, function, suffix, test, fit, said):
     facts = " ".join(f"c.{helper}{number}.ensures" for helper, number in calls)
     lines += ["", "pub returns-clause-args : goal.returns-clause-args", "returns-clause-args c ="]
     lines += [f"    call_{len(method.fields)} _ _ {same} {fit} refl", f"    {facts}"]
-    # found by a search too, which takes longer
-    for goal, lemma, answer in ((f"then-not-{asked}-", "when_no", "true"), ("", "when_yes", "false")):
-        goal = f"returns-{goal}clause-when"
-        lines += ["", f"pub {goal} : goal.{goal}", f"{goal} c = {lemma} c.{test} c.if-not-{asked}.{answer}"]
+    lines += when_answers(asked, test)
     return "\n".join(lines) + "\n"
 
 
@@ -801,6 +830,48 @@ def ref_answer(method, struct, function):
     """Of a method that is lent."""
     method_said = "(method_view c.args.method.now)"
     return lent_answer(method, struct, function, "_at", "is_kind.ensures", "c.args.method.now.fit", method_said)
+
+
+def when_answers(asked, test):
+    """What the test decides."""
+    lines = []
+    # found by a search too, which takes longer
+    for goal, lemma, answer in ((f"then-not-{asked}-", "when_no", "true"), ("", "when_yes", "false")):
+        goal = f"returns-{goal}clause-when"
+        lines += ["", f"pub {goal} : goal.{goal}", f"{goal} c = {lemma} c.{test} c.if-not-{asked}.{answer}"]
+    return lines
+
+
+def known_view_answers(method, struct):
+    """Of a method that lies in its payload: of what asks for its kind, and of what reads it."""
+    folder = f"Rattle.amqp_typed.proofs.{method.class_name}.{struct}"
+    kind = "is_view_of.ensures.kind"
+    asking = [
+        "use Rattle.amqp_typed.proofs.Places.{when_yes, when_no}",
+        f"use {folder}.from_view.Goals as goal",
+        "",
+        "pub of_view-requires : goal.of_view-requires",
+        f"of_view-requires c = (c.is_view_of.ensures.fit, c.{kind}.0 c.if-not-is_view_of.false)",
+        "",
+        "pub returns-clause-args : goal.returns-clause-args",
+        "returns-clause-args c = c.of_view.ensures",
+    ] + when_answers("is_view_of", kind)
+    calls = steps(method.fields, "_in")
+    reading = [
+        "use Rattle.std.proofs.Common.{refl}",
+        "use Rattle.amqp_method.specs.MethodRefView.{lent_call}",
+        f"use Rattle.amqp_method.specs.declared.kinds.Kind.TheVariants.{{{method.kind}}}",
+        f"use Rattle.amqp_typed.proofs.Places.{{at_place, call_{len(method.fields)}}}",
+        f"use {folder}.of_view.Goals as goal",
+    ]
+    for place, (helper, number) in enumerate(calls):
+        goal = f"{helper}-requires{number}"
+        term = f"at_place (lent_call c.args.method) {method.kind} {place} c.requires.1 refl"
+        reading += ["", f"pub {goal} : goal.{goal}", f"{goal} c = {term}"]
+    facts = " ".join(f"c.{helper}{number}.ensures" for helper, number in calls)
+    reading += ["", "pub returns : goal.returns", "returns c ="]
+    reading += [f"    call_{len(method.fields)} _ _ c.requires.1 c.requires.0 refl", f"    {facts}"]
+    return "\n".join(asking) + "\n", "\n".join(reading) + "\n"
 
 
 def view_answer(method, struct):
@@ -854,20 +925,25 @@ def any_answer(name, enum, read, of_class):
         "use Rattle.std.proofs.Common.{sym, ◌∙◌}",
         f"use Rattle.amqp_typed.proofs.{name}.{enum}.{read}.Goals as goal",
     ]
+    asked = asked_kind(read, of_class)
+    kind = "kind_in.ensures.kind" if asked == "kind_in" else "kind.ensures"
     seen = set()
     for method in of_class:
-        word = BARE_READS[read] if method.is_bare() else read
+        known = method.known_read(read)
+        word = known or read
         arm, step = f"in-{method.kind}", f"-in-{method.kind}" if word in seen else ""
         seen.add(word)
-        if method.is_bare():
+        is_kind = f"sym c.{kind} ∙ c.{arm}.is"
+        if known:
             goal = f"{word}-requires{step}"
-            lines += ["", f"pub {goal} : goal.{goal}", f"{goal} c = sym c.kind.ensures ∙ c.{arm}.is"]
+            needed = is_kind if method.is_bare() else f"(c.kind_in.ensures.fit, {is_kind})"
+            lines += ["", f"pub {goal} : goal.{goal}", f"{goal} c = {needed}"]
             goal = f"returns-{arm}"
             lines += ["", f"pub {goal} : goal.{goal}", f"{goal} c = c.{word}{step}.ensures"]
             continue
         goal = f"unwrap-requires{step}"
         lines += ["", f"pub {goal} : goal.{goal}"]
-        lines.append(f"{goal} c = c.{read}{step}.ensures.when.1 (sym c.kind.ensures ∙ c.{arm}.is)")
+        lines.append(f"{goal} c = c.{read}{step}.ensures.when.1 ({is_kind})")
         goal = f"returns-{arm}"
         lines += ["", f"pub {goal} : goal.{goal}"]
         lines.append(f"{goal} c = rw c.unwrap{step}.ensures at c.{read}{step}.ensures.args")
@@ -913,7 +989,9 @@ def answers(all_methods):
         lent = method.name + "Ref"
         found[folder / lent / "from_method" / "Answers.antt"] = ref_answer(method, lent, "from_method")
         view = method.name + "View"
-        found[folder / view / "from_view" / "Answers.antt"] = view_answer(method, view)
+        asking, reading = known_view_answers(method, view)
+        found[folder / view / "from_view" / "Answers.antt"] = asking
+        found[folder / view / "of_view" / "Answers.antt"] = reading
         found[folder / method.name / "from_method" / "Answers.antt"] = owned_answer(method)
     return found
 

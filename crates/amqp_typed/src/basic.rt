@@ -2,7 +2,7 @@
 // Written by `tools/typed_methods.py` from the table of methods in `docs/PROTOCOL.md`: change those and run it again.
 ghost use Rattle.std.specs.Prelude.{◌≡◌, ◌↔◌, IfOk, IfErr, IfSome, IsOk, IsSome, false, ◌∷◌, []};
 ghost use Rattle.amqp_value.specs.Values.{no_pairs};
-ghost use Rattle.amqp_method.specs.Arguments.{call, bit, short, long, long_long, short_string, table};
+ghost use Rattle.amqp_method.specs.Arguments.{call, Fits, bit, short, long, long_long, short_string, table};
 ghost use Rattle.amqp_method.specs.HeaderView.{properties_view};
 ghost use Rattle.amqp_method.specs.MessageView.{message_view};
 ghost use Rattle.amqp_method.specs.Messages.{letter_with};
@@ -19,7 +19,9 @@ use crate::args::{
 use crate::bare::Bare;
 use crate::bare_kinds::{BasicGetEmpty, BasicQosOk, BasicRecoverOk};
 use crate::contents::content_of;
-use crate::views::{bit_in, is_view_of, long_in, long_long_in, short_in, short_str_in, table_in};
+use crate::views::{
+    bit_in, is_view_of, kind_in, long_in, long_long_in, short_in, short_str_in, table_in,
+};
 use amqp_method::{Arg, Kind, Message, Method, MethodRef, OutOfMemory, Properties};
 use amqp_value::{ShortStr, Table, TableRef};
 use std::alloc::Global;
@@ -241,7 +243,15 @@ impl<'a> ConsumeView<'a> {
         if !is_view_of(method, Kind::BasicConsume) {
             return None;
         }
-        Some(ConsumeView {
+        Some(ConsumeView::of_view(method))
+    }
+
+    /// What a method of this kind says.
+    fn of_view(method: MethodRef<'a>) -> ConsumeView<'a>
+        requires { Fits (lent_call method) × ((lent_call method).kind ≡ BasicConsume) }
+        ensures { consume_view_call result ≡ lent_call method.entry }
+    {
+        ConsumeView {
             queue: short_str_in(method, 0),
             consumer_tag: short_str_in(method, 1),
             no_local: bit_in(method, 2),
@@ -249,7 +259,7 @@ impl<'a> ConsumeView<'a> {
             exclusive: bit_in(method, 4),
             no_wait: bit_in(method, 5),
             arguments: table_in(method, 6),
-        })
+        }
     }
 }
 
@@ -332,9 +342,17 @@ impl<'a> ConsumeOkView<'a> {
         if !is_view_of(method, Kind::BasicConsumeOk) {
             return None;
         }
-        Some(ConsumeOkView {
+        Some(ConsumeOkView::of_view(method))
+    }
+
+    /// What a method of this kind says.
+    fn of_view(method: MethodRef<'a>) -> ConsumeOkView<'a>
+        requires { Fits (lent_call method) × ((lent_call method).kind ≡ BasicConsumeOk) }
+        ensures { consume_ok_view_call result ≡ lent_call method.entry }
+    {
+        ConsumeOkView {
             consumer_tag: short_str_in(method, 0),
-        })
+        }
     }
 }
 
@@ -427,10 +445,18 @@ impl<'a> CancelView<'a> {
         if !is_view_of(method, Kind::BasicCancel) {
             return None;
         }
-        Some(CancelView {
+        Some(CancelView::of_view(method))
+    }
+
+    /// What a method of this kind says.
+    fn of_view(method: MethodRef<'a>) -> CancelView<'a>
+        requires { Fits (lent_call method) × ((lent_call method).kind ≡ BasicCancel) }
+        ensures { cancel_view_call result ≡ lent_call method.entry }
+    {
+        CancelView {
             consumer_tag: short_str_in(method, 0),
             no_wait: bit_in(method, 1),
-        })
+        }
     }
 }
 
@@ -513,9 +539,17 @@ impl<'a> CancelOkView<'a> {
         if !is_view_of(method, Kind::BasicCancelOk) {
             return None;
         }
-        Some(CancelOkView {
+        Some(CancelOkView::of_view(method))
+    }
+
+    /// What a method of this kind says.
+    fn of_view(method: MethodRef<'a>) -> CancelOkView<'a>
+        requires { Fits (lent_call method) × ((lent_call method).kind ≡ BasicCancelOk) }
+        ensures { cancel_ok_view_call result ≡ lent_call method.entry }
+    {
+        CancelOkView {
             consumer_tag: short_str_in(method, 0),
-        })
+        }
     }
 }
 
@@ -640,12 +674,20 @@ impl<'a> PublishView<'a> {
         if !is_view_of(method, Kind::BasicPublish) {
             return None;
         }
-        Some(PublishView {
+        Some(PublishView::of_view(method))
+    }
+
+    /// What a method of this kind says.
+    fn of_view(method: MethodRef<'a>) -> PublishView<'a>
+        requires { Fits (lent_call method) × ((lent_call method).kind ≡ BasicPublish) }
+        ensures { publish_view_call result ≡ lent_call method.entry }
+    {
+        PublishView {
             exchange: short_str_in(method, 0),
             routing_key: short_str_in(method, 1),
             mandatory: bit_in(method, 2),
             immediate: bit_in(method, 3),
-        })
+        }
     }
 }
 
@@ -773,12 +815,20 @@ impl<'a> ReturnView<'a> {
         if !is_view_of(method, Kind::BasicReturn) {
             return None;
         }
-        Some(ReturnView {
+        Some(ReturnView::of_view(method))
+    }
+
+    /// What a method of this kind says.
+    fn of_view(method: MethodRef<'a>) -> ReturnView<'a>
+        requires { Fits (lent_call method) × ((lent_call method).kind ≡ BasicReturn) }
+        ensures { return_view_call result ≡ lent_call method.entry }
+    {
+        ReturnView {
             reply_code: short_in(method, 0),
             reply_text: short_str_in(method, 1),
             exchange: short_str_in(method, 2),
             routing_key: short_str_in(method, 3),
-        })
+        }
     }
 }
 
@@ -915,13 +965,21 @@ impl<'a> DeliverView<'a> {
         if !is_view_of(method, Kind::BasicDeliver) {
             return None;
         }
-        Some(DeliverView {
+        Some(DeliverView::of_view(method))
+    }
+
+    /// What a method of this kind says.
+    fn of_view(method: MethodRef<'a>) -> DeliverView<'a>
+        requires { Fits (lent_call method) × ((lent_call method).kind ≡ BasicDeliver) }
+        ensures { deliver_view_call result ≡ lent_call method.entry }
+    {
+        DeliverView {
             consumer_tag: short_str_in(method, 0),
             delivery_tag: long_long_in(method, 1),
             redelivered: bit_in(method, 2),
             exchange: short_str_in(method, 3),
             routing_key: short_str_in(method, 4),
-        })
+        }
     }
 }
 
@@ -1013,10 +1071,18 @@ impl<'a> GetView<'a> {
         if !is_view_of(method, Kind::BasicGet) {
             return None;
         }
-        Some(GetView {
+        Some(GetView::of_view(method))
+    }
+
+    /// What a method of this kind says.
+    fn of_view(method: MethodRef<'a>) -> GetView<'a>
+        requires { Fits (lent_call method) × ((lent_call method).kind ≡ BasicGet) }
+        ensures { get_view_call result ≡ lent_call method.entry }
+    {
+        GetView {
             queue: short_str_in(method, 0),
             no_ack: bit_in(method, 1),
-        })
+        }
     }
 }
 
@@ -1154,13 +1220,21 @@ impl<'a> GetOkView<'a> {
         if !is_view_of(method, Kind::BasicGetOk) {
             return None;
         }
-        Some(GetOkView {
+        Some(GetOkView::of_view(method))
+    }
+
+    /// What a method of this kind says.
+    fn of_view(method: MethodRef<'a>) -> GetOkView<'a>
+        requires { Fits (lent_call method) × ((lent_call method).kind ≡ BasicGetOk) }
+        ensures { get_ok_view_call result ≡ lent_call method.entry }
+    {
+        GetOkView {
             delivery_tag: long_long_in(method, 0),
             redelivered: bit_in(method, 1),
             exchange: short_str_in(method, 2),
             routing_key: short_str_in(method, 3),
             message_count: long_in(method, 4),
-        })
+        }
     }
 }
 
@@ -1704,22 +1778,18 @@ impl<'a> AnyMethodView<'a> {
         requires { (row (lent_call method).kind).class ≡ 60 }
         ensures { any_view_call result ≡ lent_call method.entry }
     {
-        match method.kind() {
+        match kind_in(method) {
             Kind::BasicQos => AnyMethodView::Qos(Qos::from_view(method).unwrap()),
             Kind::BasicQosOk => AnyMethodView::QosOk(QosOk::of_view(method)),
-            Kind::BasicConsume => AnyMethodView::Consume(ConsumeView::from_view(method).unwrap()),
-            Kind::BasicConsumeOk => {
-                AnyMethodView::ConsumeOk(ConsumeOkView::from_view(method).unwrap())
-            }
-            Kind::BasicCancel => AnyMethodView::Cancel(CancelView::from_view(method).unwrap()),
-            Kind::BasicCancelOk => {
-                AnyMethodView::CancelOk(CancelOkView::from_view(method).unwrap())
-            }
-            Kind::BasicPublish => AnyMethodView::Publish(PublishView::from_view(method).unwrap()),
-            Kind::BasicReturn => AnyMethodView::Return(ReturnView::from_view(method).unwrap()),
-            Kind::BasicDeliver => AnyMethodView::Deliver(DeliverView::from_view(method).unwrap()),
-            Kind::BasicGet => AnyMethodView::Get(GetView::from_view(method).unwrap()),
-            Kind::BasicGetOk => AnyMethodView::GetOk(GetOkView::from_view(method).unwrap()),
+            Kind::BasicConsume => AnyMethodView::Consume(ConsumeView::of_view(method)),
+            Kind::BasicConsumeOk => AnyMethodView::ConsumeOk(ConsumeOkView::of_view(method)),
+            Kind::BasicCancel => AnyMethodView::Cancel(CancelView::of_view(method)),
+            Kind::BasicCancelOk => AnyMethodView::CancelOk(CancelOkView::of_view(method)),
+            Kind::BasicPublish => AnyMethodView::Publish(PublishView::of_view(method)),
+            Kind::BasicReturn => AnyMethodView::Return(ReturnView::of_view(method)),
+            Kind::BasicDeliver => AnyMethodView::Deliver(DeliverView::of_view(method)),
+            Kind::BasicGet => AnyMethodView::Get(GetView::of_view(method)),
+            Kind::BasicGetOk => AnyMethodView::GetOk(GetOkView::of_view(method)),
             Kind::BasicGetEmpty => AnyMethodView::GetEmpty(GetEmpty::of_view(method)),
             Kind::BasicAck => AnyMethodView::Ack(Ack::from_view(method).unwrap()),
             Kind::BasicReject => AnyMethodView::Reject(Reject::from_view(method).unwrap()),

@@ -1,7 +1,7 @@
 //! The methods of the class channel (`amqp0-9-1.xml`, class 20).
 // Written by `tools/typed_methods.py` from the table of methods in `docs/PROTOCOL.md`: change those and run it again.
 ghost use Rattle.std.specs.Prelude.{◌≡◌, ◌↔◌, IfOk, IfErr, IfSome, IsOk, IsSome, ◌∷◌, []};
-ghost use Rattle.amqp_method.specs.Arguments.{call, bit, short, short_string};
+ghost use Rattle.amqp_method.specs.Arguments.{call, Fits, bit, short, short_string};
 ghost use Rattle.amqp_method.specs.MethodRefView.{lent_call};
 ghost use Rattle.amqp_method.specs.MethodView.{method_view};
 ghost use Rattle.amqp_method.specs.Methods.{row};
@@ -13,7 +13,7 @@ use crate::args::{
 };
 use crate::bare::Bare;
 use crate::bare_kinds::{ChannelCloseOk, ChannelOpen, ChannelOpenOk};
-use crate::views::{bit_in, is_view_of, short_in, short_str_in};
+use crate::views::{bit_in, is_view_of, kind_in, short_in, short_str_in};
 use amqp_method::{Arg, Kind, Method, MethodRef, OutOfMemory};
 use amqp_value::ShortStr;
 use std::alloc::Global;
@@ -254,12 +254,20 @@ impl<'a> CloseView<'a> {
         if !is_view_of(method, Kind::ChannelClose) {
             return None;
         }
-        Some(CloseView {
+        Some(CloseView::of_view(method))
+    }
+
+    /// What a method of this kind says.
+    fn of_view(method: MethodRef<'a>) -> CloseView<'a>
+        requires { Fits (lent_call method) × ((lent_call method).kind ≡ ChannelClose) }
+        ensures { close_view_call result ≡ lent_call method.entry }
+    {
+        CloseView {
             reply_code: short_in(method, 0),
             reply_text: short_str_in(method, 1),
             class_id: short_in(method, 2),
             method_id: short_in(method, 3),
-        })
+        }
     }
 }
 
@@ -366,12 +374,12 @@ impl<'a> AnyMethodView<'a> {
         requires { (row (lent_call method).kind).class ≡ 20 }
         ensures { any_view_call result ≡ lent_call method.entry }
     {
-        match method.kind() {
+        match kind_in(method) {
             Kind::ChannelOpen => AnyMethodView::Open(Open::of_view(method)),
             Kind::ChannelOpenOk => AnyMethodView::OpenOk(OpenOk::of_view(method)),
             Kind::ChannelFlow => AnyMethodView::Flow(Flow::from_view(method).unwrap()),
             Kind::ChannelFlowOk => AnyMethodView::FlowOk(FlowOk::from_view(method).unwrap()),
-            Kind::ChannelClose => AnyMethodView::Close(CloseView::from_view(method).unwrap()),
+            Kind::ChannelClose => AnyMethodView::Close(CloseView::of_view(method)),
             Kind::ChannelCloseOk => AnyMethodView::CloseOk(CloseOk::of_view(method)),
             _ => unreachable!(),
         }

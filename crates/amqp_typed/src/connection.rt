@@ -2,7 +2,7 @@
 // Written by `tools/typed_methods.py` from the table of methods in `docs/PROTOCOL.md`: change those and run it again.
 ghost use Rattle.std.specs.Prelude.{◌≡◌, ◌↔◌, IfOk, IfErr, IfSome, IsOk, IsSome, ◌∷◌, []};
 ghost use Rattle.amqp_value.specs.Values.{no_pairs};
-ghost use Rattle.amqp_method.specs.Arguments.{call, octet, short, long, short_string, long_string, table};
+ghost use Rattle.amqp_method.specs.Arguments.{call, Fits, octet, short, long, short_string, long_string, table};
 ghost use Rattle.amqp_method.specs.MethodRefView.{lent_call};
 ghost use Rattle.amqp_method.specs.MethodView.{method_view};
 ghost use Rattle.amqp_method.specs.Methods.{row};
@@ -15,7 +15,9 @@ use crate::args::{
 };
 use crate::bare::Bare;
 use crate::bare_kinds::{ConnectionCloseOk, ConnectionOpenOk, ConnectionUnblocked};
-use crate::views::{is_view_of, long_in, long_str_in, octet_in, short_in, short_str_in, table_in};
+use crate::views::{
+    is_view_of, kind_in, long_in, long_str_in, octet_in, short_in, short_str_in, table_in,
+};
 use amqp_method::{Arg, Kind, Method, MethodRef, OutOfMemory};
 use amqp_value::{ShortStr, Table, TableRef};
 use std::alloc::Global;
@@ -137,13 +139,21 @@ impl<'a> StartView<'a> {
         if !is_view_of(method, Kind::ConnectionStart) {
             return None;
         }
-        Some(StartView {
+        Some(StartView::of_view(method))
+    }
+
+    /// What a method of this kind says.
+    fn of_view(method: MethodRef<'a>) -> StartView<'a>
+        requires { Fits (lent_call method) × ((lent_call method).kind ≡ ConnectionStart) }
+        ensures { start_view_call result ≡ lent_call method.entry }
+    {
+        StartView {
             version_major: octet_in(method, 0),
             version_minor: octet_in(method, 1),
             server_properties: table_in(method, 2),
             mechanisms: long_str_in(method, 3),
             locales: long_str_in(method, 4),
-        })
+        }
     }
 }
 
@@ -255,12 +265,20 @@ impl<'a> StartOkView<'a> {
         if !is_view_of(method, Kind::ConnectionStartOk) {
             return None;
         }
-        Some(StartOkView {
+        Some(StartOkView::of_view(method))
+    }
+
+    /// What a method of this kind says.
+    fn of_view(method: MethodRef<'a>) -> StartOkView<'a>
+        requires { Fits (lent_call method) × ((lent_call method).kind ≡ ConnectionStartOk) }
+        ensures { start_ok_view_call result ≡ lent_call method.entry }
+    {
+        StartOkView {
             client_properties: table_in(method, 0),
             mechanism: short_str_in(method, 1),
             response: long_str_in(method, 2),
             locale: short_str_in(method, 3),
-        })
+        }
     }
 }
 
@@ -344,9 +362,17 @@ impl<'a> SecureView<'a> {
         if !is_view_of(method, Kind::ConnectionSecure) {
             return None;
         }
-        Some(SecureView {
+        Some(SecureView::of_view(method))
+    }
+
+    /// What a method of this kind says.
+    fn of_view(method: MethodRef<'a>) -> SecureView<'a>
+        requires { Fits (lent_call method) × ((lent_call method).kind ≡ ConnectionSecure) }
+        ensures { secure_view_call result ≡ lent_call method.entry }
+    {
+        SecureView {
             challenge: long_str_in(method, 0),
-        })
+        }
     }
 }
 
@@ -431,9 +457,17 @@ impl<'a> SecureOkView<'a> {
         if !is_view_of(method, Kind::ConnectionSecureOk) {
             return None;
         }
-        Some(SecureOkView {
+        Some(SecureOkView::of_view(method))
+    }
+
+    /// What a method of this kind says.
+    fn of_view(method: MethodRef<'a>) -> SecureOkView<'a>
+        requires { Fits (lent_call method) × ((lent_call method).kind ≡ ConnectionSecureOk) }
+        ensures { secure_ok_view_call result ≡ lent_call method.entry }
+    {
+        SecureOkView {
             response: long_str_in(method, 0),
-        })
+        }
     }
 }
 
@@ -680,9 +714,17 @@ impl<'a> OpenView<'a> {
         if !is_view_of(method, Kind::ConnectionOpen) {
             return None;
         }
-        Some(OpenView {
+        Some(OpenView::of_view(method))
+    }
+
+    /// What a method of this kind says.
+    fn of_view(method: MethodRef<'a>) -> OpenView<'a>
+        requires { Fits (lent_call method) × ((lent_call method).kind ≡ ConnectionOpen) }
+        ensures { open_view_call result ≡ lent_call method.entry }
+    {
+        OpenView {
             virtual_host: short_str_in(method, 0),
-        })
+        }
     }
 }
 
@@ -796,12 +838,20 @@ impl<'a> CloseView<'a> {
         if !is_view_of(method, Kind::ConnectionClose) {
             return None;
         }
-        Some(CloseView {
+        Some(CloseView::of_view(method))
+    }
+
+    /// What a method of this kind says.
+    fn of_view(method: MethodRef<'a>) -> CloseView<'a>
+        requires { Fits (lent_call method) × ((lent_call method).kind ≡ ConnectionClose) }
+        ensures { close_view_call result ≡ lent_call method.entry }
+    {
+        CloseView {
             reply_code: short_in(method, 0),
             reply_text: short_str_in(method, 1),
             class_id: short_in(method, 2),
             method_id: short_in(method, 3),
-        })
+        }
     }
 }
 
@@ -883,9 +933,17 @@ impl<'a> BlockedView<'a> {
         if !is_view_of(method, Kind::ConnectionBlocked) {
             return None;
         }
-        Some(BlockedView {
+        Some(BlockedView::of_view(method))
+    }
+
+    /// What a method of this kind says.
+    fn of_view(method: MethodRef<'a>) -> BlockedView<'a>
+        requires { Fits (lent_call method) × ((lent_call method).kind ≡ ConnectionBlocked) }
+        ensures { blocked_view_call result ≡ lent_call method.entry }
+    {
+        BlockedView {
             reason: short_str_in(method, 0),
-        })
+        }
     }
 }
 
@@ -1034,24 +1092,18 @@ impl<'a> AnyMethodView<'a> {
         requires { (row (lent_call method).kind).class ≡ 10 }
         ensures { any_view_call result ≡ lent_call method.entry }
     {
-        match method.kind() {
-            Kind::ConnectionStart => AnyMethodView::Start(StartView::from_view(method).unwrap()),
-            Kind::ConnectionStartOk => {
-                AnyMethodView::StartOk(StartOkView::from_view(method).unwrap())
-            }
-            Kind::ConnectionSecure => AnyMethodView::Secure(SecureView::from_view(method).unwrap()),
-            Kind::ConnectionSecureOk => {
-                AnyMethodView::SecureOk(SecureOkView::from_view(method).unwrap())
-            }
+        match kind_in(method) {
+            Kind::ConnectionStart => AnyMethodView::Start(StartView::of_view(method)),
+            Kind::ConnectionStartOk => AnyMethodView::StartOk(StartOkView::of_view(method)),
+            Kind::ConnectionSecure => AnyMethodView::Secure(SecureView::of_view(method)),
+            Kind::ConnectionSecureOk => AnyMethodView::SecureOk(SecureOkView::of_view(method)),
             Kind::ConnectionTune => AnyMethodView::Tune(Tune::from_view(method).unwrap()),
             Kind::ConnectionTuneOk => AnyMethodView::TuneOk(TuneOk::from_view(method).unwrap()),
-            Kind::ConnectionOpen => AnyMethodView::Open(OpenView::from_view(method).unwrap()),
+            Kind::ConnectionOpen => AnyMethodView::Open(OpenView::of_view(method)),
             Kind::ConnectionOpenOk => AnyMethodView::OpenOk(OpenOk::of_view(method)),
-            Kind::ConnectionClose => AnyMethodView::Close(CloseView::from_view(method).unwrap()),
+            Kind::ConnectionClose => AnyMethodView::Close(CloseView::of_view(method)),
             Kind::ConnectionCloseOk => AnyMethodView::CloseOk(CloseOk::of_view(method)),
-            Kind::ConnectionBlocked => {
-                AnyMethodView::Blocked(BlockedView::from_view(method).unwrap())
-            }
+            Kind::ConnectionBlocked => AnyMethodView::Blocked(BlockedView::of_view(method)),
             Kind::ConnectionUnblocked => AnyMethodView::Unblocked(Unblocked::of_view(method)),
             _ => unreachable!(),
         }

@@ -2,7 +2,7 @@
 // Written by `tools/typed_methods.py` from the table of methods in `docs/PROTOCOL.md`: change those and run it again.
 ghost use Rattle.std.specs.Prelude.{◌≡◌, ◌↔◌, IfOk, IfErr, IfSome, IsOk, IsSome, false, ◌∷◌, []};
 ghost use Rattle.amqp_value.specs.Values.{no_pairs};
-ghost use Rattle.amqp_method.specs.Arguments.{call, bit, short_string, table};
+ghost use Rattle.amqp_method.specs.Arguments.{call, Fits, bit, short_string, table};
 ghost use Rattle.amqp_method.specs.MethodRefView.{lent_call};
 ghost use Rattle.amqp_method.specs.MethodView.{method_view};
 ghost use Rattle.amqp_method.specs.Methods.{row};
@@ -15,7 +15,7 @@ use crate::args::{
 };
 use crate::bare::Bare;
 use crate::bare_kinds::{ExchangeBindOk, ExchangeDeclareOk, ExchangeDeleteOk, ExchangeUnbindOk};
-use crate::views::{bit_in, is_view_of, short_str_in, table_in};
+use crate::views::{bit_in, is_view_of, kind_in, short_str_in, table_in};
 use amqp_method::{Arg, Kind, Method, MethodRef, OutOfMemory};
 use amqp_value::{ShortStr, Table, TableRef};
 use std::alloc::Global;
@@ -162,7 +162,15 @@ impl<'a> DeclareView<'a> {
         if !is_view_of(method, Kind::ExchangeDeclare) {
             return None;
         }
-        Some(DeclareView {
+        Some(DeclareView::of_view(method))
+    }
+
+    /// What a method of this kind says.
+    fn of_view(method: MethodRef<'a>) -> DeclareView<'a>
+        requires { Fits (lent_call method) × ((lent_call method).kind ≡ ExchangeDeclare) }
+        ensures { declare_view_call result ≡ lent_call method.entry }
+    {
+        DeclareView {
             exchange: short_str_in(method, 0),
             type_name: short_str_in(method, 1),
             passive: bit_in(method, 2),
@@ -171,7 +179,7 @@ impl<'a> DeclareView<'a> {
             internal: bit_in(method, 5),
             no_wait: bit_in(method, 6),
             arguments: table_in(method, 7),
-        })
+        }
     }
 }
 
@@ -278,11 +286,19 @@ impl<'a> DeleteView<'a> {
         if !is_view_of(method, Kind::ExchangeDelete) {
             return None;
         }
-        Some(DeleteView {
+        Some(DeleteView::of_view(method))
+    }
+
+    /// What a method of this kind says.
+    fn of_view(method: MethodRef<'a>) -> DeleteView<'a>
+        requires { Fits (lent_call method) × ((lent_call method).kind ≡ ExchangeDelete) }
+        ensures { delete_view_call result ≡ lent_call method.entry }
+    {
+        DeleteView {
             exchange: short_str_in(method, 0),
             if_unused: bit_in(method, 1),
             no_wait: bit_in(method, 2),
-        })
+        }
     }
 }
 
@@ -410,13 +426,21 @@ impl<'a> BindView<'a> {
         if !is_view_of(method, Kind::ExchangeBind) {
             return None;
         }
-        Some(BindView {
+        Some(BindView::of_view(method))
+    }
+
+    /// What a method of this kind says.
+    fn of_view(method: MethodRef<'a>) -> BindView<'a>
+        requires { Fits (lent_call method) × ((lent_call method).kind ≡ ExchangeBind) }
+        ensures { bind_view_call result ≡ lent_call method.entry }
+    {
+        BindView {
             destination: short_str_in(method, 0),
             source: short_str_in(method, 1),
             routing_key: short_str_in(method, 2),
             no_wait: bit_in(method, 3),
             arguments: table_in(method, 4),
-        })
+        }
     }
 }
 
@@ -544,13 +568,21 @@ impl<'a> UnbindView<'a> {
         if !is_view_of(method, Kind::ExchangeUnbind) {
             return None;
         }
-        Some(UnbindView {
+        Some(UnbindView::of_view(method))
+    }
+
+    /// What a method of this kind says.
+    fn of_view(method: MethodRef<'a>) -> UnbindView<'a>
+        requires { Fits (lent_call method) × ((lent_call method).kind ≡ ExchangeUnbind) }
+        ensures { unbind_view_call result ≡ lent_call method.entry }
+    {
+        UnbindView {
             destination: short_str_in(method, 0),
             source: short_str_in(method, 1),
             routing_key: short_str_in(method, 2),
             no_wait: bit_in(method, 3),
             arguments: table_in(method, 4),
-        })
+        }
     }
 }
 
@@ -671,16 +703,14 @@ impl<'a> AnyMethodView<'a> {
         requires { (row (lent_call method).kind).class ≡ 40 }
         ensures { any_view_call result ≡ lent_call method.entry }
     {
-        match method.kind() {
-            Kind::ExchangeDeclare => {
-                AnyMethodView::Declare(DeclareView::from_view(method).unwrap())
-            }
+        match kind_in(method) {
+            Kind::ExchangeDeclare => AnyMethodView::Declare(DeclareView::of_view(method)),
             Kind::ExchangeDeclareOk => AnyMethodView::DeclareOk(DeclareOk::of_view(method)),
-            Kind::ExchangeDelete => AnyMethodView::Delete(DeleteView::from_view(method).unwrap()),
+            Kind::ExchangeDelete => AnyMethodView::Delete(DeleteView::of_view(method)),
             Kind::ExchangeDeleteOk => AnyMethodView::DeleteOk(DeleteOk::of_view(method)),
-            Kind::ExchangeBind => AnyMethodView::Bind(BindView::from_view(method).unwrap()),
+            Kind::ExchangeBind => AnyMethodView::Bind(BindView::of_view(method)),
             Kind::ExchangeBindOk => AnyMethodView::BindOk(BindOk::of_view(method)),
-            Kind::ExchangeUnbind => AnyMethodView::Unbind(UnbindView::from_view(method).unwrap()),
+            Kind::ExchangeUnbind => AnyMethodView::Unbind(UnbindView::of_view(method)),
             Kind::ExchangeUnbindOk => AnyMethodView::UnbindOk(UnbindOk::of_view(method)),
             _ => unreachable!(),
         }

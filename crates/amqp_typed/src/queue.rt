@@ -2,7 +2,7 @@
 // Written by `tools/typed_methods.py` from the table of methods in `docs/PROTOCOL.md`: change those and run it again.
 ghost use Rattle.std.specs.Prelude.{◌≡◌, ◌↔◌, IfOk, IfErr, IfSome, IsOk, IsSome, false, ◌∷◌, []};
 ghost use Rattle.amqp_value.specs.Values.{no_pairs};
-ghost use Rattle.amqp_method.specs.Arguments.{call, bit, long, short_string, table};
+ghost use Rattle.amqp_method.specs.Arguments.{call, Fits, bit, long, short_string, table};
 ghost use Rattle.amqp_method.specs.MethodRefView.{lent_call};
 ghost use Rattle.amqp_method.specs.MethodView.{method_view};
 ghost use Rattle.amqp_method.specs.Methods.{row};
@@ -15,7 +15,7 @@ use crate::args::{
 };
 use crate::bare::Bare;
 use crate::bare_kinds::{QueueBindOk, QueueUnbindOk};
-use crate::views::{bit_in, is_view_of, long_in, short_str_in, table_in};
+use crate::views::{bit_in, is_view_of, kind_in, long_in, short_str_in, table_in};
 use amqp_method::{Arg, Kind, Method, MethodRef, OutOfMemory};
 use amqp_value::{ShortStr, Table, TableRef};
 use std::alloc::Global;
@@ -154,7 +154,15 @@ impl<'a> DeclareView<'a> {
         if !is_view_of(method, Kind::QueueDeclare) {
             return None;
         }
-        Some(DeclareView {
+        Some(DeclareView::of_view(method))
+    }
+
+    /// What a method of this kind says.
+    fn of_view(method: MethodRef<'a>) -> DeclareView<'a>
+        requires { Fits (lent_call method) × ((lent_call method).kind ≡ QueueDeclare) }
+        ensures { declare_view_call result ≡ lent_call method.entry }
+    {
+        DeclareView {
             queue: short_str_in(method, 0),
             passive: bit_in(method, 1),
             durable: bit_in(method, 2),
@@ -162,7 +170,7 @@ impl<'a> DeclareView<'a> {
             auto_delete: bit_in(method, 4),
             no_wait: bit_in(method, 5),
             arguments: table_in(method, 6),
-        })
+        }
     }
 }
 
@@ -265,11 +273,19 @@ impl<'a> DeclareOkView<'a> {
         if !is_view_of(method, Kind::QueueDeclareOk) {
             return None;
         }
-        Some(DeclareOkView {
+        Some(DeclareOkView::of_view(method))
+    }
+
+    /// What a method of this kind says.
+    fn of_view(method: MethodRef<'a>) -> DeclareOkView<'a>
+        requires { Fits (lent_call method) × ((lent_call method).kind ≡ QueueDeclareOk) }
+        ensures { declare_ok_view_call result ≡ lent_call method.entry }
+    {
+        DeclareOkView {
             queue: short_str_in(method, 0),
             message_count: long_in(method, 1),
             consumer_count: long_in(method, 2),
-        })
+        }
     }
 }
 
@@ -387,13 +403,21 @@ impl<'a> BindView<'a> {
         if !is_view_of(method, Kind::QueueBind) {
             return None;
         }
-        Some(BindView {
+        Some(BindView::of_view(method))
+    }
+
+    /// What a method of this kind says.
+    fn of_view(method: MethodRef<'a>) -> BindView<'a>
+        requires { Fits (lent_call method) × ((lent_call method).kind ≡ QueueBind) }
+        ensures { bind_view_call result ≡ lent_call method.entry }
+    {
+        BindView {
             queue: short_str_in(method, 0),
             exchange: short_str_in(method, 1),
             routing_key: short_str_in(method, 2),
             no_wait: bit_in(method, 3),
             arguments: table_in(method, 4),
-        })
+        }
     }
 }
 
@@ -506,12 +530,20 @@ impl<'a> UnbindView<'a> {
         if !is_view_of(method, Kind::QueueUnbind) {
             return None;
         }
-        Some(UnbindView {
+        Some(UnbindView::of_view(method))
+    }
+
+    /// What a method of this kind says.
+    fn of_view(method: MethodRef<'a>) -> UnbindView<'a>
+        requires { Fits (lent_call method) × ((lent_call method).kind ≡ QueueUnbind) }
+        ensures { unbind_view_call result ≡ lent_call method.entry }
+    {
+        UnbindView {
             queue: short_str_in(method, 0),
             exchange: short_str_in(method, 1),
             routing_key: short_str_in(method, 2),
             arguments: table_in(method, 3),
-        })
+        }
     }
 }
 
@@ -606,10 +638,18 @@ impl<'a> PurgeView<'a> {
         if !is_view_of(method, Kind::QueuePurge) {
             return None;
         }
-        Some(PurgeView {
+        Some(PurgeView::of_view(method))
+    }
+
+    /// What a method of this kind says.
+    fn of_view(method: MethodRef<'a>) -> PurgeView<'a>
+        requires { Fits (lent_call method) × ((lent_call method).kind ≡ QueuePurge) }
+        ensures { purge_view_call result ≡ lent_call method.entry }
+    {
+        PurgeView {
             queue: short_str_in(method, 0),
             no_wait: bit_in(method, 1),
-        })
+        }
     }
 }
 
@@ -781,12 +821,20 @@ impl<'a> DeleteView<'a> {
         if !is_view_of(method, Kind::QueueDelete) {
             return None;
         }
-        Some(DeleteView {
+        Some(DeleteView::of_view(method))
+    }
+
+    /// What a method of this kind says.
+    fn of_view(method: MethodRef<'a>) -> DeleteView<'a>
+        requires { Fits (lent_call method) × ((lent_call method).kind ≡ QueueDelete) }
+        ensures { delete_view_call result ≡ lent_call method.entry }
+    {
+        DeleteView {
             queue: short_str_in(method, 0),
             if_unused: bit_in(method, 1),
             if_empty: bit_in(method, 2),
             no_wait: bit_in(method, 3),
-        })
+        }
     }
 }
 
@@ -978,18 +1026,16 @@ impl<'a> AnyMethodView<'a> {
         requires { (row (lent_call method).kind).class ≡ 50 }
         ensures { any_view_call result ≡ lent_call method.entry }
     {
-        match method.kind() {
-            Kind::QueueDeclare => AnyMethodView::Declare(DeclareView::from_view(method).unwrap()),
-            Kind::QueueDeclareOk => {
-                AnyMethodView::DeclareOk(DeclareOkView::from_view(method).unwrap())
-            }
-            Kind::QueueBind => AnyMethodView::Bind(BindView::from_view(method).unwrap()),
+        match kind_in(method) {
+            Kind::QueueDeclare => AnyMethodView::Declare(DeclareView::of_view(method)),
+            Kind::QueueDeclareOk => AnyMethodView::DeclareOk(DeclareOkView::of_view(method)),
+            Kind::QueueBind => AnyMethodView::Bind(BindView::of_view(method)),
             Kind::QueueBindOk => AnyMethodView::BindOk(BindOk::of_view(method)),
-            Kind::QueueUnbind => AnyMethodView::Unbind(UnbindView::from_view(method).unwrap()),
+            Kind::QueueUnbind => AnyMethodView::Unbind(UnbindView::of_view(method)),
             Kind::QueueUnbindOk => AnyMethodView::UnbindOk(UnbindOk::of_view(method)),
-            Kind::QueuePurge => AnyMethodView::Purge(PurgeView::from_view(method).unwrap()),
+            Kind::QueuePurge => AnyMethodView::Purge(PurgeView::of_view(method)),
             Kind::QueuePurgeOk => AnyMethodView::PurgeOk(PurgeOk::from_view(method).unwrap()),
-            Kind::QueueDelete => AnyMethodView::Delete(DeleteView::from_view(method).unwrap()),
+            Kind::QueueDelete => AnyMethodView::Delete(DeleteView::of_view(method)),
             Kind::QueueDeleteOk => AnyMethodView::DeleteOk(DeleteOk::from_view(method).unwrap()),
             _ => unreachable!(),
         }

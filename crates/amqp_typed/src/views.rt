@@ -11,13 +11,21 @@ use crate::args::is_same;
 use amqp_method::{ArgRef, FieldKind, Kind, MethodRef};
 use amqp_value::TableRef;
 
+/// The kind of the method, which its arguments fit.
+pub(crate) fn kind_in(method: MethodRef<'_>) -> Kind
+    ensures kind { result ≡ (lent_call method.entry).kind }
+    ensures fit { Fits (lent_call method.entry) }
+{
+    let _args = method.args();
+    method.kind()
+}
+
 /// Whether the method is of this kind.
 pub(crate) fn is_view_of(method: MethodRef<'_>, kind: Kind) -> bool
     ensures kind { IsTrue result ↔ ((lent_call method.entry).kind ≡ kind) }
     ensures fit { Fits (lent_call method.entry) }
 {
-    let _args = method.args();
-    is_same(method.kind(), kind)
+    is_same(kind_in(method), kind)
 }
 
 /// The argument at a place.

@@ -1,34 +1,11 @@
-use Rattle.std.proofs.Common.{refl}
-use Rattle.amqp_method.specs.MethodRefView.{lent_call}
-use Rattle.amqp_method.specs.declared.kinds.Kind.TheVariants.{BasicConsume}
-use Rattle.amqp_typed.proofs.Places.{at_place, call_7, when_yes, when_no}
+use Rattle.amqp_typed.proofs.Places.{when_yes, when_no}
 use Rattle.amqp_typed.proofs.basic.ConsumeView.from_view.Goals as goal
 
-pub short_str_in-requires : goal.short_str_in-requires
-short_str_in-requires c = at_place (lent_call c.args.method) BasicConsume 0 (c.is_view_of.ensures.kind.0 c.if-not-is_view_of.false) refl
-
-pub short_str_in-requires-2 : goal.short_str_in-requires-2
-short_str_in-requires-2 c = at_place (lent_call c.args.method) BasicConsume 1 (c.is_view_of.ensures.kind.0 c.if-not-is_view_of.false) refl
-
-pub bit_in-requires : goal.bit_in-requires
-bit_in-requires c = at_place (lent_call c.args.method) BasicConsume 2 (c.is_view_of.ensures.kind.0 c.if-not-is_view_of.false) refl
-
-pub bit_in-requires-2 : goal.bit_in-requires-2
-bit_in-requires-2 c = at_place (lent_call c.args.method) BasicConsume 3 (c.is_view_of.ensures.kind.0 c.if-not-is_view_of.false) refl
-
-pub bit_in-requires-3 : goal.bit_in-requires-3
-bit_in-requires-3 c = at_place (lent_call c.args.method) BasicConsume 4 (c.is_view_of.ensures.kind.0 c.if-not-is_view_of.false) refl
-
-pub bit_in-requires-4 : goal.bit_in-requires-4
-bit_in-requires-4 c = at_place (lent_call c.args.method) BasicConsume 5 (c.is_view_of.ensures.kind.0 c.if-not-is_view_of.false) refl
-
-pub table_in-requires : goal.table_in-requires
-table_in-requires c = at_place (lent_call c.args.method) BasicConsume 6 (c.is_view_of.ensures.kind.0 c.if-not-is_view_of.false) refl
+pub of_view-requires : goal.of_view-requires
+of_view-requires c = (c.is_view_of.ensures.fit, c.is_view_of.ensures.kind.0 c.if-not-is_view_of.false)
 
 pub returns-clause-args : goal.returns-clause-args
-returns-clause-args c =
-    call_7 _ _ (c.is_view_of.ensures.kind.0 c.if-not-is_view_of.false) c.is_view_of.ensures.fit refl
-    c.short_str_in.ensures c.short_str_in-2.ensures c.bit_in.ensures c.bit_in-2.ensures c.bit_in-3.ensures c.bit_in-4.ensures c.table_in.ensures
+returns-clause-args c = c.of_view.ensures
 
 pub returns-then-not-is_view_of-clause-when : goal.returns-then-not-is_view_of-clause-when
 returns-then-not-is_view_of-clause-when c = when_no c.is_view_of.ensures.kind c.if-not-is_view_of.true

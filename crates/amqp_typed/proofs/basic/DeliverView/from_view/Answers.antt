@@ -1,28 +1,11 @@
-use Rattle.std.proofs.Common.{refl}
-use Rattle.amqp_method.specs.MethodRefView.{lent_call}
-use Rattle.amqp_method.specs.declared.kinds.Kind.TheVariants.{BasicDeliver}
-use Rattle.amqp_typed.proofs.Places.{at_place, call_5, when_yes, when_no}
+use Rattle.amqp_typed.proofs.Places.{when_yes, when_no}
 use Rattle.amqp_typed.proofs.basic.DeliverView.from_view.Goals as goal
 
-pub short_str_in-requires : goal.short_str_in-requires
-short_str_in-requires c = at_place (lent_call c.args.method) BasicDeliver 0 (c.is_view_of.ensures.kind.0 c.if-not-is_view_of.false) refl
-
-pub long_long_in-requires : goal.long_long_in-requires
-long_long_in-requires c = at_place (lent_call c.args.method) BasicDeliver 1 (c.is_view_of.ensures.kind.0 c.if-not-is_view_of.false) refl
-
-pub bit_in-requires : goal.bit_in-requires
-bit_in-requires c = at_place (lent_call c.args.method) BasicDeliver 2 (c.is_view_of.ensures.kind.0 c.if-not-is_view_of.false) refl
-
-pub short_str_in-requires-2 : goal.short_str_in-requires-2
-short_str_in-requires-2 c = at_place (lent_call c.args.method) BasicDeliver 3 (c.is_view_of.ensures.kind.0 c.if-not-is_view_of.false) refl
-
-pub short_str_in-requires-3 : goal.short_str_in-requires-3
-short_str_in-requires-3 c = at_place (lent_call c.args.method) BasicDeliver 4 (c.is_view_of.ensures.kind.0 c.if-not-is_view_of.false) refl
+pub of_view-requires : goal.of_view-requires
+of_view-requires c = (c.is_view_of.ensures.fit, c.is_view_of.ensures.kind.0 c.if-not-is_view_of.false)
 
 pub returns-clause-args : goal.returns-clause-args
-returns-clause-args c =
-    call_5 _ _ (c.is_view_of.ensures.kind.0 c.if-not-is_view_of.false) c.is_view_of.ensures.fit refl
-    c.short_str_in.ensures c.long_long_in.ensures c.bit_in.ensures c.short_str_in-2.ensures c.short_str_in-3.ensures
+returns-clause-args c = c.of_view.ensures
 
 pub returns-then-not-is_view_of-clause-when : goal.returns-then-not-is_view_of-clause-when
 returns-then-not-is_view_of-clause-when c = when_no c.is_view_of.ensures.kind c.if-not-is_view_of.true

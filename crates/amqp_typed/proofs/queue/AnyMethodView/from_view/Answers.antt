@@ -1,62 +1,62 @@
 use Rattle.std.proofs.Common.{sym, ◌∙◌}
 use Rattle.amqp_typed.proofs.queue.AnyMethodView.from_view.Goals as goal
 
-pub unwrap-requires : goal.unwrap-requires
-unwrap-requires c = c.from_view.ensures.when.1 (sym c.kind.ensures ∙ c.in-QueueDeclare.is)
+pub of_view-requires : goal.of_view-requires
+of_view-requires c = (c.kind_in.ensures.fit, sym c.kind_in.ensures.kind ∙ c.in-QueueDeclare.is)
 
 pub returns-in-QueueDeclare : goal.returns-in-QueueDeclare
-returns-in-QueueDeclare c = rw c.unwrap.ensures at c.from_view.ensures.args
+returns-in-QueueDeclare c = c.of_view.ensures
 
-pub unwrap-requires-in-QueueDeclareOk : goal.unwrap-requires-in-QueueDeclareOk
-unwrap-requires-in-QueueDeclareOk c = c.from_view-in-QueueDeclareOk.ensures.when.1 (sym c.kind.ensures ∙ c.in-QueueDeclareOk.is)
+pub of_view-requires-in-QueueDeclareOk : goal.of_view-requires-in-QueueDeclareOk
+of_view-requires-in-QueueDeclareOk c = (c.kind_in.ensures.fit, sym c.kind_in.ensures.kind ∙ c.in-QueueDeclareOk.is)
 
 pub returns-in-QueueDeclareOk : goal.returns-in-QueueDeclareOk
-returns-in-QueueDeclareOk c = rw c.unwrap-in-QueueDeclareOk.ensures at c.from_view-in-QueueDeclareOk.ensures.args
+returns-in-QueueDeclareOk c = c.of_view-in-QueueDeclareOk.ensures
 
-pub unwrap-requires-in-QueueBind : goal.unwrap-requires-in-QueueBind
-unwrap-requires-in-QueueBind c = c.from_view-in-QueueBind.ensures.when.1 (sym c.kind.ensures ∙ c.in-QueueBind.is)
+pub of_view-requires-in-QueueBind : goal.of_view-requires-in-QueueBind
+of_view-requires-in-QueueBind c = (c.kind_in.ensures.fit, sym c.kind_in.ensures.kind ∙ c.in-QueueBind.is)
 
 pub returns-in-QueueBind : goal.returns-in-QueueBind
-returns-in-QueueBind c = rw c.unwrap-in-QueueBind.ensures at c.from_view-in-QueueBind.ensures.args
+returns-in-QueueBind c = c.of_view-in-QueueBind.ensures
 
-pub of_view-requires : goal.of_view-requires
-of_view-requires c = sym c.kind.ensures ∙ c.in-QueueBindOk.is
+pub of_view-requires-in-QueueBindOk : goal.of_view-requires-in-QueueBindOk
+of_view-requires-in-QueueBindOk c = sym c.kind_in.ensures.kind ∙ c.in-QueueBindOk.is
 
 pub returns-in-QueueBindOk : goal.returns-in-QueueBindOk
-returns-in-QueueBindOk c = c.of_view.ensures
+returns-in-QueueBindOk c = c.of_view-in-QueueBindOk.ensures
 
-pub unwrap-requires-in-QueueUnbind : goal.unwrap-requires-in-QueueUnbind
-unwrap-requires-in-QueueUnbind c = c.from_view-in-QueueUnbind.ensures.when.1 (sym c.kind.ensures ∙ c.in-QueueUnbind.is)
+pub of_view-requires-in-QueueUnbind : goal.of_view-requires-in-QueueUnbind
+of_view-requires-in-QueueUnbind c = (c.kind_in.ensures.fit, sym c.kind_in.ensures.kind ∙ c.in-QueueUnbind.is)
 
 pub returns-in-QueueUnbind : goal.returns-in-QueueUnbind
-returns-in-QueueUnbind c = rw c.unwrap-in-QueueUnbind.ensures at c.from_view-in-QueueUnbind.ensures.args
+returns-in-QueueUnbind c = c.of_view-in-QueueUnbind.ensures
 
 pub of_view-requires-in-QueueUnbindOk : goal.of_view-requires-in-QueueUnbindOk
-of_view-requires-in-QueueUnbindOk c = sym c.kind.ensures ∙ c.in-QueueUnbindOk.is
+of_view-requires-in-QueueUnbindOk c = sym c.kind_in.ensures.kind ∙ c.in-QueueUnbindOk.is
 
 pub returns-in-QueueUnbindOk : goal.returns-in-QueueUnbindOk
 returns-in-QueueUnbindOk c = c.of_view-in-QueueUnbindOk.ensures
 
-pub unwrap-requires-in-QueuePurge : goal.unwrap-requires-in-QueuePurge
-unwrap-requires-in-QueuePurge c = c.from_view-in-QueuePurge.ensures.when.1 (sym c.kind.ensures ∙ c.in-QueuePurge.is)
+pub of_view-requires-in-QueuePurge : goal.of_view-requires-in-QueuePurge
+of_view-requires-in-QueuePurge c = (c.kind_in.ensures.fit, sym c.kind_in.ensures.kind ∙ c.in-QueuePurge.is)
 
 pub returns-in-QueuePurge : goal.returns-in-QueuePurge
-returns-in-QueuePurge c = rw c.unwrap-in-QueuePurge.ensures at c.from_view-in-QueuePurge.ensures.args
+returns-in-QueuePurge c = c.of_view-in-QueuePurge.ensures
 
-pub unwrap-requires-in-QueuePurgeOk : goal.unwrap-requires-in-QueuePurgeOk
-unwrap-requires-in-QueuePurgeOk c = c.from_view-in-QueuePurgeOk.ensures.when.1 (sym c.kind.ensures ∙ c.in-QueuePurgeOk.is)
+pub unwrap-requires : goal.unwrap-requires
+unwrap-requires c = c.from_view.ensures.when.1 (sym c.kind_in.ensures.kind ∙ c.in-QueuePurgeOk.is)
 
 pub returns-in-QueuePurgeOk : goal.returns-in-QueuePurgeOk
-returns-in-QueuePurgeOk c = rw c.unwrap-in-QueuePurgeOk.ensures at c.from_view-in-QueuePurgeOk.ensures.args
+returns-in-QueuePurgeOk c = rw c.unwrap.ensures at c.from_view.ensures.args
 
-pub unwrap-requires-in-QueueDelete : goal.unwrap-requires-in-QueueDelete
-unwrap-requires-in-QueueDelete c = c.from_view-in-QueueDelete.ensures.when.1 (sym c.kind.ensures ∙ c.in-QueueDelete.is)
+pub of_view-requires-in-QueueDelete : goal.of_view-requires-in-QueueDelete
+of_view-requires-in-QueueDelete c = (c.kind_in.ensures.fit, sym c.kind_in.ensures.kind ∙ c.in-QueueDelete.is)
 
 pub returns-in-QueueDelete : goal.returns-in-QueueDelete
-returns-in-QueueDelete c = rw c.unwrap-in-QueueDelete.ensures at c.from_view-in-QueueDelete.ensures.args
+returns-in-QueueDelete c = c.of_view-in-QueueDelete.ensures
 
 pub unwrap-requires-in-QueueDeleteOk : goal.unwrap-requires-in-QueueDeleteOk
-unwrap-requires-in-QueueDeleteOk c = c.from_view-in-QueueDeleteOk.ensures.when.1 (sym c.kind.ensures ∙ c.in-QueueDeleteOk.is)
+unwrap-requires-in-QueueDeleteOk c = c.from_view-in-QueueDeleteOk.ensures.when.1 (sym c.kind_in.ensures.kind ∙ c.in-QueueDeleteOk.is)
 
 pub returns-in-QueueDeleteOk : goal.returns-in-QueueDeleteOk
 returns-in-QueueDeleteOk c = rw c.unwrap-in-QueueDeleteOk.ensures at c.from_view-in-QueueDeleteOk.ensures.args
