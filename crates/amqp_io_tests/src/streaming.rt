@@ -195,10 +195,12 @@ fn assert_lent(
     let properties = Properties::default();
     let mut octets = Vec::new(alloc);
     open_first(alloc, session)?;
-    assert!(rt; waits(session, &deliver, &mut octets));
+    assert!(rt; fault(session, 1, &deliver, &mut octets) == Some(LendFault::Waits));
     session.push(usize::MAX)?;
-    assert!(rt; refusal(session, 1, &flow, &mut octets) == Some(AskFault::NotSendable));
-    assert!(rt; refusal(session, 2, &deliver, &mut octets) == Some(AskFault::NotOpen));
+    let refused = Some(LendFault::Refused(AskFault::NotSendable));
+    assert!(rt; fault(session, 1, &flow, &mut octets) == refused);
+    let refused = Some(LendFault::Refused(AskFault::NotOpen));
+    assert!(rt; fault(session, 2, &deliver, &mut octets) == refused);
     let mut frames = session
         .end
         .lend_content(1, &deliver, &properties, b"abcdefghij", &mut octets)?;
@@ -213,36 +215,20 @@ fn assert_lent(
     Ok(())
 }
 
-/// Whether a content isn't lent, since octets wait.
-fn waits(
-    session: &mut StreamSession<Server, Script>,
-    method: &Method,
-    octets: &mut Vec<u8>,
-) -> bool {
-    let properties = Properties::default();
-    let lent = session
-        .end
-        .lend_content(1, method, &properties, b"", octets);
-    match lent {
-        Err(LendFault::Waits) => true,
-        _ => false,
-    }
-}
-
-/// Why a content is refused.
-fn refusal(
+/// Why no content with this method is lent.
+fn fault(
     session: &mut StreamSession<Server, Script>,
     channel: u16,
     method: &Method,
     octets: &mut Vec<u8>,
-) -> Option<AskFault> {
+) -> Option<LendFault> {
     let properties = Properties::default();
-    match session
+    let lent = session
         .end
-        .lend_content(channel, method, &properties, b"", octets)
-    {
-        Err(LendFault::Refused(fault)) => Some(fault),
-        _ => None,
+        .lend_content(channel, method, &properties, b"", octets);
+    match lent {
+        Ok(_) => None,
+        Err(fault) => Some(fault),
     }
 }
 
