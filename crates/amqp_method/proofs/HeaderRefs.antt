@@ -1,8 +1,8 @@
 -- Views of content headers: the properties of octets that are known to be read.
-use Rattle.std.proofs.Common.{◌≡◌, ℕ, zero, suc, ◌+◌, ◌-◌, ◌%◌, ◌^◌, ◌==◌, ◌<◌, ◌≤◌, List, [], ◌∷◌, length, drop, true, false, Option, Some, None, Result, Ok, Err, refl, sym, ap, subst, ◌∙◌, arith}
+use Rattle.std.proofs.Common.{◌≡◌, ℕ, zero, suc, ◌+◌, ◌-◌, ◌%◌, ◌^◌, ◌==◌, ◌<◌, ◌≤◌, List, [], ◌∷◌, length, drop, Bool, true, false, Option, Some, None, Result, Ok, Err, refl, sym, ap, subst, ◌∙◌, arith}
 use Rattle.std.specs.Prelude.{IsOk, IsTrue, is_ok, MatchOption, replicate}
 use Rattle.std.proofs.Math.Nat.{mod-eq_of_lt}
-use Rattle.std.proofs.lemmas.Bool.{eqb-true}
+use Rattle.std.proofs.lemmas.Bool.{eqb-true, true≢false}
 use Rattle.std.proofs.lemmas.List.{drop-drop, length-drop}
 use Rattle.byteorder.specs.Endian.{big_number}
 use Rattle.amqp_value.specs.Reading.{◌>>=◌, table_at}
@@ -237,6 +237,40 @@ later_in_order all o p q r s t u v w first second third fourth fifth sixth seven
 pub none_after : (h : HeaderRef) (octets : List ℕ) → PropertiesLeft h 14 octets → drop 14 (properties_read (header_at h.payload.now)) ≡ []
 unfolding properties_at
 none_after h octets left = sym (ap (λ (x : List (Option Argument) × List ℕ). x.0) (same_ok _ _ left.reads))
+
+-- ---- a property whose flag is not set
+
+none_unset : (set : Bool) (kind : FieldKind) (end : ℕ) (octets : List ℕ) (x : Option Argument × List ℕ) → set ≡ false
+    → optional_at set kind end octets ≡ Ok x → x.0 ≡ None
+unfolding optional_at
+none_unset true kind end octets x unset read = absurd (true≢false unset)
+none_unset false kind end octets x unset read = ap (λ (y : Option Argument × List ℕ). y.0) (sym (same_ok (None, octets) x read))
+
+unset_none : (kinds : List FieldKind) (flags end : ℕ) (octets : List ℕ) (x : List (Option Argument) × List ℕ) (place flag : ℕ)
+    → properties_at kinds flags end octets ≡ Ok x → flag + place ≡ length kinds + 1 → place < length kinds
+    → has_flag flag flags ≡ false → property_at place x.0 ≡ None
+unfolding properties_at
+unset_none [] flags end octets x place flag read at small unset = absurd (omega (arith, small))
+unset_none (kind ∷ kinds) flags end octets x zero flag read at small unset =
+    let a = bind_ok (optional_at (has_flag (length kinds + 2) flags) kind end octets) _ x read in
+    let b = bind_ok (properties_at kinds flags end a.0.1) _ x a.2 in
+    let here : flag ≡ length kinds + 2 = omega (arith, at) in
+    let none = none_unset (has_flag (length kinds + 2) flags) kind end octets a.0 (subst (λ (n : ℕ). has_flag n flags ≡ false) here unset) a.1 in
+    ap (λ (y : List (Option Argument) × List ℕ). property_at zero y.0) (sym (same_ok (a.0.0 ∷ b.0.0, b.0.1) x b.2)) ∙ none
+unset_none (kind ∷ kinds) flags end octets x (suc n) flag read at small unset =
+    let a = bind_ok (optional_at (has_flag (length kinds + 2) flags) kind end octets) _ x read in
+    let b = bind_ok (properties_at kinds flags end a.0.1) _ x a.2 in
+    let later : flag + n ≡ length kinds + 1 = omega (arith, at) in
+    let within : n < length kinds = omega (arith, small) in
+    ap (λ (y : List (Option Argument) × List ℕ). property_at (suc n) y.0) (sym (same_ok (a.0.0 ∷ b.0.0, b.0.1) x b.2))
+    ∙ unset_none kinds flags end a.0.1 b.0 n flag b.1 later within unset
+
+pub not_there : (h : HeaderRef) (place flag : ℕ) → flag + place ≡ 15 → place < 14 → has_flag flag h.flags ≡ false
+    → property_at place (properties_read (header_at h.payload.now)) ≡ None
+not_there h place flag at small unset =
+    let p = lent_properties h.payload.now h.body_size h.flags h.below h.flagged h.reads in
+    unset_none property_kinds h.flags (length h.payload.now) (drop 14 h.payload.now) (properties_read (header_at h.payload.now), []) place flag
+    p.properties at small unset
 
 pub match_property : (lent : Option ArgRef) (p : Option Argument) → p ≡ property_ref_view lent → MatchOption lent (p ≡ None) (λ value. p ≡ Some (arg_ref_view value))
 match_property None p is = is

@@ -109,8 +109,22 @@ impl<'a> HeaderRef<'a> {
         }
     }
 
-    /// The property at a place, if it is there.
+    /// The property at a place, if it is there. One whose flag isn't set is not looked for.
+    #[inline(always)]
     pub(crate) fn at(self, place: usize) -> Option<ArgRef<'a>>
+        requires { place < 14 }
+        ensures { MatchOption result (at_place place (lent_header self.entry).properties ≡ None)
+            (λ value. at_place place (lent_header self.entry).properties ≡ Some (arg_ref_view value)) }
+    {
+        if !property_at(place).is_flagged(self.flags) {
+            return None;
+        }
+        self.past_earlier(place)
+    }
+
+    /// The property at a place, if it is there, after the octets of those before it.
+    #[inline(never)]
+    fn past_earlier(self, place: usize) -> Option<ArgRef<'a>>
         requires { place < 14 }
         ensures { MatchOption result (at_place place (lent_header self.entry).properties ≡ None)
             (λ value. at_place place (lent_header self.entry).properties ≡ Some (arg_ref_view value)) }
