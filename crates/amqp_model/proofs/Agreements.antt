@@ -27,7 +27,8 @@ use Rattle.amqp_model.proofs.Together.{new, greeted, start_held, answered, login
 use Rattle.amqp_model.proofs.Together.{login_refused, both_closed, client_closed, server_closed, smaller-is}
 use Rattle.amqp_model.proofs.Hearing.{is_shut, shakes_hands, is_none, is_early}
 use Rattle.amqp_model.proofs.ZeroSteps.{passing-zero}
-use Rattle.amqp_model.proofs.BothEnds.{TogetherAs, hears-as, mine_of, theirs_of, Joined, turned, pair-joined}
+use Rattle.amqp_model.proofs.BothEnds.{TogetherAs, hears-as, mine_of, theirs_of, Joined, turned}
+use Rattle.amqp_model.proofs.PairsTogether.{pair-joined}
 
 module _ (reads : MethodReadsBack) where
   pub joined : (role : Role) (client_config : Config Client) (server_config : Config Server) (mine theirs : History)

@@ -90,6 +90,7 @@ mod Together
 mod Hearing
 mod ZeroSteps
 mod BothEnds
+mod PairsTogether
 mod Agreements
 mod WellPut
 mod WellPutPairs
