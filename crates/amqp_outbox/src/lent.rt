@@ -16,11 +16,8 @@ ghost use Rattle.amqp_outbox.specs.OutboxFrames.{HeaderReadsBack};
 
 use crate::parts::{END, start_of};
 use crate::staging::{StageFault, append_header, append_method};
-use amqp_frame::HEADER_LENGTH;
+use amqp_frame::{HEADER_LENGTH, OVERHEAD};
 use amqp_method::{Method, Properties};
-
-/// How many octets stand between two parts: the one that ends a frame, and those that begin the next.
-const BETWEEN: usize = 8;
 
 /// The octets of the frames of a content, lent in the order in which they are to leave.
 #[derive(Clone, Copy)]
@@ -173,7 +170,8 @@ impl<'a> ContentFrames<'a> {
         let (before, later) = self.between.split_at(self.before.min(self.between.len()));
         let (part, rest) = self.body.split_at(self.room.min(self.body.len()));
         self.between = later;
-        self.before = BETWEEN;
+        // between two parts stand the octet that ends a frame, and the header of the next
+        self.before = OVERHEAD;
         self.part = part;
         self.body = rest;
         before

@@ -22,7 +22,7 @@
 //! memory for the places, and a frame of channel 0 that goes before others. So the worst is a row of many octets of
 //! which none is written, and frames that go near its beginning: a put moves nearly all of the row. A write reads the
 //! slots of the frames that it begins, and moves nothing: what it wrote is dropped later, before a frame is staged.
-ghost use Rattle.std.specs.Prelude.{◌≡◌, ℕ, List, ◌+◌, ◌^◌, ◌<◌, ◌≤◌, ◌==◌, [], ◌∷◌, ◌++◌, ◌≢◌, length, take, drop, slice_set, vec_capacity, IfErr, IfSome, OnOk, OnErr, Err};
+ghost use Rattle.std.specs.Prelude.{◌≡◌, List, ◌+◌, ◌^◌, ◌<◌, ◌≤◌, ◌==◌, [], ◌∷◌, ◌≢◌, length, take, drop, vec_capacity, IfErr, IfSome, OnOk, OnErr, Err};
 ghost use Rattle.amqp_frame.specs.Frame.{Frame};
 ghost use Rattle.amqp_frame.specs.Splitting.{stream};
 ghost use Rattle.amqp_method.specs.HeaderView.{properties_view};
@@ -37,15 +37,15 @@ ghost use Rattle.amqp_model.specs.Output.Outputs.{output_octets, waiting_on, aft
 ghost use Rattle.amqp_outbox.specs.LentContent.{AllOn, all_written};
 ghost use Rattle.amqp_outbox.specs.OutboxFaults.{begun, out_of_memory, too_long};
 ghost use Rattle.amqp_outbox.specs.OutboxFrames.{header_frame, body_frame, HeaderReadsBack};
-ghost use Rattle.amqp_outbox.specs.OutboxLaps.{laps_in};
-ghost use Rattle.amqp_outbox.specs.OutboxSlots.{slots_in, moved_up, moved_down};
 ghost use Rattle.amqp_outbox.specs.StagesChunks.{StagesChunks};
 ghost use Rattle.amqp_outbox.specs.OutboxView.{only, begins_with, with_staged, with_output, all_put, IsPutOfFirst};
 
 use crate::chunks::Chunks;
 use crate::handing::{HandOverFault, stage_row};
+use crate::moves::{forget, move_down, move_up, put_slot};
 use crate::newest::{Newest, Writer};
 use crate::parts::{append_parts, count_parts};
+use crate::room::Room;
 use crate::send_queue::SendQueue;
 use crate::slots::{Slot, Waiting, begun_of, length_from, length_on, place_of};
 use crate::staging::{
@@ -60,17 +60,6 @@ use std::marker::Model;
 
 /// How many octets most frames of a method or of a header have at most.
 const USUAL_FRAME: usize = 512;
-
-/// For how many octets an outbox keeps its room, however few wait.
-const KEPT_OCTETS: usize = 65_536;
-
-/// For how many frames it does: their slots take as much as so many octets.
-const KEPT_SLOTS: usize = 4_096;
-
-/// For how many octets it keeps its room over a few writes that use little, and for how many frames.
-const LARGE_OCTETS: usize = 4_194_304;
-
-const LARGE_SLOTS: usize = 262_144;
 
 /// After so many writes in a row that use little of much room it gives the room back, even where it isn't large.
 const SPARED: u8 = 16;
@@ -291,27 +280,11 @@ impl Outbox {
     fn give_back(&mut self)
         ensures { self.new ≡ self.old }
     {
-        let octets = Room {
-            all: self.octets.capacity(),
-            filled: self.octets.len(),
-            left: self.octets.len() - self.written,
-            kept: KEPT_OCTETS,
-            large: LARGE_OCTETS,
-        };
-        let slots = Room {
-            all: self.slots.capacity(),
-            filled: self.slots.len(),
-            left: self.slots.len() - self.slots_begun,
-            kept: KEPT_SLOTS,
-            large: LARGE_SLOTS,
-        };
-        let aside = Room {
-            all: self.aside.capacity(),
-            filled: self.aside.len(),
-            left: self.aside.len(),
-            kept: KEPT_OCTETS,
-            large: LARGE_OCTETS,
-        };
+        let left = self.octets.len() - self.written;
+        let octets = Room::of_octets(self.octets.capacity(), self.octets.len(), left);
+        let aside = Room::of_octets(self.aside.capacity(), self.aside.len(), self.aside.len());
+        let left = self.slots.len() - self.slots_begun;
+        let slots = Room::of_slots(self.slots.capacity(), self.slots.len(), left);
         if !octets.is_spare() && !aside.is_spare() && !slots.is_spare() {
             self.spared = 0;
             return;
@@ -342,6 +315,19 @@ impl Outbox {
             self.forget_begun();
             self.slots.shrink_to(slots.smaller());
         }
+    }
+
+    /// Gives back all room but that of what waits or is staged, which is moved into it. It is for an end that may stay
+    /// idle.
+    pub fn shrink_to_fit(&mut self)
+        ensures { self.new ≡ self.old }
+    {
+        self.forget_written();
+        let held = self.octets.len().saturating_add(self.aside.len());
+        self.octets.shrink_to(held);
+        self.aside.shrink_to(0);
+        self.forget_begun();
+        self.slots.shrink_to(0);
     }
 
     /// Adds all frames that wait to a queue: a copy of each, or none.
@@ -726,106 +712,4 @@ fn keep_room(octets: &mut Vec<u8>, aside: &mut Vec<u8>, at: usize) -> Result<(),
         return Err(StageFault::OutOfMemory);
     };
     Ok(())
-}
-
-/// For how many items there is room, how many are there, and for how many it is kept.
-#[derive(Clone, Copy)]
-struct Room {
-    all: usize,
-    /// with those that are written, and not dropped yet
-    filled: usize,
-    /// without them
-    left: usize,
-    /// always
-    kept: usize,
-    /// over a few writes that use little
-    large: usize,
-}
-
-impl Room {
-    /// How many count as using it: those that are left alone, where it is more than is kept over a few writes.
-    fn used(self) -> usize {
-        if self.all > self.large {
-            self.left
-        } else {
-            self.filled
-        }
-    }
-
-    /// Whether it is more than is kept of it always.
-    fn is_spare(self) -> bool {
-        self.all > self.kept && self.used() < self.all / 16
-    }
-
-    /// Whether it is more than is kept over a few writes.
-    fn is_large(self) -> bool {
-        self.all > self.large && self.used() < self.all / 16
-    }
-
-    /// For how many there is to be room, once some is given back.
-    fn smaller(self) -> usize {
-        self.used().saturating_mul(2).max(self.kept)
-    }
-}
-
-/// Drops the first of the items.
-fn forget<T: Copy + Drop>(items: &mut Vec<T>, count: usize)
-    requires { count ≤ length items.old.items }
-    ensures items { items.new.items ≡ drop count items.old.items }
-    ensures room { vec_capacity items.new ≡ vec_capacity items.old }
-{
-    let left = items.len() - count;
-    items.copy_within(count.., 0);
-    items.truncate(left);
-}
-
-/// Moves so many items, which stand last before an end, up to an earlier place.
-fn move_up<T>(items: &mut Vec<T>, place: usize, end: usize, count: usize)
-    requires room { place + count ≤ end }
-    requires end { end ≤ length items.old.items }
-    ensures { items.new.items ≡ moved_up place end count items.old.items }
-{
-    let part = &mut items.as_mut_slice()[place..end];
-    part.rotate_right(count);
-}
-
-/// Gives the frame whose slot stands at an end its lap, and moves the slot up to an earlier place.
-fn put_slot(slots: &mut Vec<Waiting>, place: usize, end: usize, lap: u64)
-    requires order { place ≤ end }
-    requires end { end < length slots.old.items }
-    ensures slots { slots_in slots.new.items ≡ moved_up place (end + 1) 1 (slots_in slots.old.items) }
-    ensures laps { laps_in slots.new.items ≡ moved_up place (end + 1) 1 (slice_set (laps_in slots.old.items) end lap) }
-{
-    set_lap(slots, end, lap);
-    move_up(slots, place, end + 1, 1);
-}
-
-/// Gives the frame whose slot stands at a place its lap.
-fn set_lap(slots: &mut Vec<Waiting>, at: usize, lap: u64)
-    requires { at < length slots.old.items }
-    ensures count { length slots.new.items ≡ length slots.old.items }
-    ensures slots { slots_in slots.new.items ≡ slots_in slots.old.items }
-    ensures laps { laps_in slots.new.items ≡ slice_set (laps_in slots.old.items) at lap }
-{
-    let waiting = slots[at];
-    slots[at] = Waiting {
-        slot: waiting.slot,
-        lap,
-    };
-}
-
-/// Moves so many octets, which stand at a place, down before those from an earlier place on. Those from a still earlier
-/// place up to there make room: they move down over octets that are written, and as many are dropped.
-fn move_down(octets: &mut Vec<u8>, from: usize, place: usize, at: usize, count: usize)
-    requires room { count ≤ from }
-    requires order { from ≤ place }
-    requires place { place ≤ at }
-    requires end { at + count ≤ length octets.old.items }
-    ensures { octets.new.items ≡ moved_down from place at count octets.old.items }
-{
-    let length = octets.len();
-    octets.copy_within(from..place, from - count);
-    octets.copy_within(at..at + count, place - count);
-    octets.copy_within(at + count..length, at);
-    octets.truncate(length - count);
 }

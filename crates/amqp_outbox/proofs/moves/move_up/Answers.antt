@@ -1,6 +1,6 @@
 use Rattle.std.proofs.Common.{length, sym, ap, ◌∙◌}
 use Rattle.amqp_outbox.proofs.OutboxLists.{rotated}
-use Rattle.amqp_outbox.proofs.outbox.move_up.Goals as goal
+use Rattle.amqp_outbox.proofs.moves.move_up.Goals as goal
 
 pub returns : goal.returns
 returns g c =

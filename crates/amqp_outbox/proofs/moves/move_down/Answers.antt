@@ -1,6 +1,6 @@
 use Rattle.std.proofs.Common.{arith}
 use Rattle.amqp_outbox.proofs.OutboxLists.{copied_down}
-use Rattle.amqp_outbox.proofs.outbox.move_down.Goals as goal
+use Rattle.amqp_outbox.proofs.moves.move_down.Goals as goal
 
 pub returns : goal.returns
 returns c =

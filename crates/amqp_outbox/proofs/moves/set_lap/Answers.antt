@@ -1,7 +1,7 @@
 use Rattle.std.proofs.Common.{ap}
 use Rattle.amqp_outbox.specs.declared.slots.Waiting.{Waiting}
 use Rattle.amqp_outbox.proofs.OutboxWaiting.{slots-set, laps-set}
-use Rattle.amqp_outbox.proofs.outbox.set_lap.Goals as goal
+use Rattle.amqp_outbox.proofs.moves.set_lap.Goals as goal
 
 pub returns-clause-slots : goal.returns-clause-slots
 returns-clause-slots c =

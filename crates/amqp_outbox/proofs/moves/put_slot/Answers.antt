@@ -1,7 +1,7 @@
 use Rattle.std.proofs.Common.{◌+◌, ap, ◌∙◌}
 use Rattle.amqp_outbox.specs.OutboxSlots.{moved_up}
 use Rattle.amqp_outbox.proofs.OutboxWaiting.{moved-slots, moved-laps}
-use Rattle.amqp_outbox.proofs.outbox.put_slot.Goals as goal
+use Rattle.amqp_outbox.proofs.moves.put_slot.Goals as goal
 
 pub returns-clause-slots : goal.returns-clause-slots
 returns-clause-slots c =
