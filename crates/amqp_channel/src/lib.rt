@@ -19,6 +19,7 @@ mod display;
 mod events;
 mod free_numbers;
 mod gathering;
+mod lent;
 mod life;
 mod parts;
 mod progress;
