@@ -125,7 +125,8 @@ impl<R: Role> StreamEnd<R> {
         self.heard.of(kind)
     }
 
-    /// Forgets what the other end said in the handshake, its credentials among it.
+    /// Forgets what the other end said in the handshake, its credentials among it, and gives back room that its output
+    /// doesn't need now: for an end that may stay idle.
     pub fn forget_heard(&mut self)
         ensures heard { heard_in self.new ≡ record (heard_in self.old) { methods = nothing_heard } }
         ensures same { endpoint_of self.new ≡ endpoint_of self.old }
@@ -133,6 +134,7 @@ impl<R: Role> StreamEnd<R> {
         ensures counters { counters_of self.new ≡ counters_of self.old }
     {
         self.heard.forget();
+        self.inner.outbox.shrink_to_fit();
     }
 
     /// What the last close of the other end was about, of a channel or of the connection, that an event told of.

@@ -9,6 +9,7 @@ ghost use Rattle.amqp_io.specs.Streams.{Marks, WriteFails};
 use crate::faults::StreamFailed;
 use crate::stream::Stream;
 use amqp_core::{ContentFrames, Pieces, SendQueue};
+use amqp_frame::OVERHEAD;
 use std::io::IoSlice;
 
 /// The octets of the first slice that has any.
@@ -70,17 +71,15 @@ fn next_of_content<'a>(frames: &mut ContentFrames<'a>) -> IoSlice<'a>
     }
 }
 
-/// How many octets stand between two parts of a body.
-const BETWEEN: usize = 8;
-
 /// The last piece of a write, as a slice: an empty one where a part of the body is next. So a write ends with what
-/// stands between two parts, and the octet after the last part is left for no write of its own.
+/// stands between two parts, the end of a frame and the header of the next, and the octet after the last part is left
+/// for no write of its own.
 fn last_of_write<'a>(frames: &mut ContentFrames<'a>) -> IoSlice<'a>
     ensures { content_left frames.old ≡ io_slice_bytes result ++ content_left frames.new }
 {
     let mut after = *frames;
     match after.next_piece() {
-        Some(piece) if piece.len() <= BETWEEN => {
+        Some(piece) if piece.len() <= OVERHEAD => {
             *frames = after;
             IoSlice::new(piece)
         }
