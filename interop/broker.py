@@ -341,7 +341,11 @@ def lives_of_queues():
     code = code_of(lambda: second.channel().exchange_declare("b.passing", passive=True))
     says("pika: an auto-delete exchange goes with its last binding", 404, code)
     first.close()
-    says("pika: an exclusive queue goes with its connection", 404, code_of_queue(second, "b.own"))
+    # behind a proxy, the broker hears of the close a moment after the client has its answer
+    until = time.monotonic() + 10
+    while (code := code_of_queue(second, "b.own")) == 405 and time.monotonic() < until:
+        time.sleep(0.05)
+    says("pika: an exclusive queue goes with its connection", 404, code)
     other.queue_declare("b.left")
     other.basic_publish("", "b.left", b"m")
     child = os.fork()

@@ -231,7 +231,7 @@ def log_in(client):
     response = b"\0guest\0guest"
     start_ok = b"\0\x0a\0\x0b\0\0\0\0" + short(b"PLAIN") + struct.pack(">I", len(response)) + response
     client.sendall(frame(1, 0, start_ok + short(b"en_US")))
-    until(client, struct.pack(">HHHIH", 10, 30, 2047, 131_072, 0))
+    until(client, struct.pack(">HHHIH", 10, 30, 2047, 131_072, 60))
     client.sendall(frame(1, 0, struct.pack(">HHHIH", 10, 31, 2047, 131_072, 0)))
     client.sendall(frame(1, 0, b"\0\x0a\0\x28\x01/\0\0"))
     until(client, b"\0\x0a\0\x29\0")

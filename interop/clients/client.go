@@ -71,12 +71,12 @@ func main() {
 	must(channel.Qos(10, 0, false))
 	deliveries, err := channel.Consume(queue.Name, "one", false, false, false, false, nil)
 	must(err)
+	// a deferred confirm is lost where the broker confirms before the client has noted that it published
+	confirms := channel.NotifyPublish(make(chan amqp.Confirmation, 10000))
 	publish := func(key string, mandatory bool, body []byte) bool {
 		message := amqp.Publishing{Body: body, Headers: amqp.Table{"size": int32(len(body))}}
-		confirm, err := channel.PublishWithDeferredConfirmWithContext(
-			context.Background(), "b.go", key, mandatory, false, message)
-		must(err)
-		return confirm.Wait()
+		must(channel.PublishWithContext(context.Background(), "b.go", key, mandatory, false, message))
+		return (<-confirms).Ack
 	}
 	for _, size := range []int{0, 1, 131072 - 8, 1000000, 50000000} {
 		body := bytes.Repeat([]byte{byte(size)}, size)
@@ -102,6 +102,9 @@ func main() {
 		delivery := next(deliveries)
 		inOrder = inOrder && string(delivery.Body) == fmt.Sprint(number)
 		must(delivery.Ack(false))
+	}
+	for number := 0; number < 10000; number++ {
+		inOrder = inOrder && (<-confirms).Ack
 	}
 	says("10000 messages in order, with confirms and acks", true, inOrder)
 	must(channel.Cancel("one", false))

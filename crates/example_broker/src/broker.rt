@@ -3,16 +3,17 @@ use crate::channel::Channel;
 use crate::connection::Connection;
 use crate::exchanges::Exchanges;
 use crate::fault::{Answer, Done, Fault, refused};
-use crate::login::{Users, server_end};
+use crate::messages::{Content, Share};
 use crate::queues::{Place, QueueId, Queues};
 use amqp_core::{AskFault, Event};
 use amqp_method::{Kind, Message, Method, reply};
 use amqp_typed::AnyMethod;
-use amqp_typed::basic::AnyMethod as Basic;
+use amqp_typed::basic::{AnyMethod as Basic, Publish};
 use amqp_typed::confirm::AnyMethod as Confirm;
 use amqp_typed::exchange::AnyMethod as Exchange;
 use amqp_typed::queue::AnyMethod as Queue;
 use amqp_value::ShortStr;
+use example_loop::{Connect, Program};
 use mio::net::TcpStream;
 use std::alloc::{AllocError, Global};
 use std::cell::Cell;
@@ -25,9 +26,9 @@ const BOUND: usize = 268_435_456;
 #[derive(Drop)]
 pub struct Broker {
     pub alloc: Global,
-    users: Users,
+    users: Rc<String>,
     /// How many octets all messages hold.
-    pub held: Rc<Cell<usize>>,
+    held: Rc<Cell<usize>>,
     pub connections: BTreeMap<usize, Connection>,
     pub exchanges: Exchanges,
     pub queues: Queues,
@@ -37,10 +38,11 @@ pub struct Broker {
 }
 
 impl Broker {
-    pub fn new(alloc: Global, users: Users) -> Result<Broker, Fault> {
+    /// A broker with these users: a line `name:password` for each.
+    pub fn new(alloc: Global, users: String) -> Result<Broker, Fault> {
         let mut broker = Broker {
             alloc,
-            users,
+            users: Rc::new(alloc, users)?,
             held: Rc::new(alloc, Cell::new(0))?,
             connections: BTreeMap::new(alloc),
             exchanges: BTreeMap::new(alloc),
@@ -73,38 +75,6 @@ impl Broker {
         self.connection(at.0)?.channel(at.1)
     }
 
-    /// Whether a connection has something to do at once.
-    pub fn has_work(&self) -> bool {
-        let mut links = self.connections.values().map(|connection| &connection.link);
-        links.any(|link| link.has_work() || link.is_done())
-    }
-
-    pub fn add_connection(&mut self, id: usize, stream: TcpStream) -> anyhow::Result<()> {
-        let connection = Connection::new(self.alloc, stream, server_end(self.alloc)?);
-        self.connections.insert(id, connection)?;
-        Ok(())
-    }
-
-    /// Gives each connection a turn, and each queue: it sends its messages to its consumers.
-    pub fn turn(&mut self, has_ticked: bool, room: &mut [u8]) -> Done {
-        let ids = self.connections.keys().copied();
-        let ids: Vec<usize> = ids.collect(self.alloc)?;
-        for id in ids {
-            let is_short = self.held.get() > BOUND;
-            let connection = self.connection(id)?;
-            let count = connection.turn(is_short, has_ticked, room);
-            if connection.link.is_done() {
-                self.remove_connection(id)?;
-            } else {
-                self.hear(id, &room[..count])?;
-            }
-        }
-        for queue in self.queues.values_mut() {
-            queue.deliver(&mut self.connections);
-        }
-        Ok(())
-    }
-
     /// Does what a connection asks for. What can't be done ends it.
     fn hear(&mut self, id: usize, octets: &[u8]) -> Done {
         let mut rest = octets;
@@ -119,10 +89,9 @@ impl Broker {
         Ok(())
     }
 
-    /// Does what an event asks for.
     fn handle(&mut self, id: usize, event: Event) -> Done {
         match event {
-            Event::LoginAsked => self.login(id),
+            Event::LoginAsked => self.connection(id)?.login(),
             Event::OpenAsked => self.connection(id)?.enter(),
             Event::Opened(channel) => self.connection(id)?.open_channel(channel),
             Event::Told(channel, message) => self.tell(Place(id, channel), message),
@@ -139,24 +108,19 @@ impl Broker {
         }
     }
 
-    fn login(&mut self, id: usize) -> Done {
-        match self.connections.get_mut(&id) {
-            Some(connection) => connection.login(&self.users),
-            None => Ok(()),
-        }
-    }
-
     /// Does what a method asks for, and answers it if the client wants that. One that is refused closes its channel, or
     /// the connection where the error is a hard one.
     fn tell(&mut self, at: Place, message: Message) -> Done {
         let kind = message.method().kind();
         let is_answered = message.method().is_request() || kind.has_content();
-        let answer = match message.into_parts() {
-            (method, Some((properties, body))) => self.publish(at, method, properties, body),
-            (method, None) => self.tell_method(at, method),
-        };
-        match answer {
-            Ok(Some(method)) if is_answered => self.send(at, method),
+        match self.answer(at, message) {
+            Ok(Some(method)) if is_answered => {
+                if let Ok(answer) = Message::try_plain(method) {
+                    let end = &mut self.connection(at.0)?.link.end;
+                    end.send(at.1, &answer)?;
+                }
+                Ok(())
+            }
             Ok(_) => Ok(()),
             Err(fault) => {
                 let (code, text) = fault.into_close(self.alloc)?;
@@ -165,7 +129,21 @@ impl Broker {
         }
     }
 
-    fn tell_method(&mut self, at: Place, method: Method) -> Answer {
+    fn answer(&mut self, at: Place, message: Message) -> Answer {
+        let (method, content) = message.into_parts();
+        if let Some((properties, body)) = content {
+            // a client sends contents after no other
+            let Ok(publish) = Publish::from_method(method) else {
+                return Ok(None);
+            };
+            let content = Content {
+                publish,
+                properties,
+                share: Share::new(body.len(), &self.held)?,
+                body,
+            };
+            return self.publish(at, content);
+        }
         match AnyMethod::from_method(method) {
             AnyMethod::Exchange(Exchange::Declare(declare)) => self.declare_exchange(declare),
             AnyMethod::Exchange(Exchange::Delete(delete)) => self.delete_exchange(delete),
@@ -175,7 +153,7 @@ impl Broker {
             AnyMethod::Queue(Queue::Unbind(unbind)) => self.unbind_queue(at, unbind),
             AnyMethod::Queue(Queue::Purge(purge)) => self.purge_queue(at, purge),
             AnyMethod::Queue(Queue::Delete(delete)) => self.delete_queue(at, delete),
-            AnyMethod::Basic(method) => self.tell_basic(at, method),
+            AnyMethod::Basic(method) => self.answer_basic(at, method),
             AnyMethod::Confirm(Confirm::Select(_)) => self.select_confirms(at),
             AnyMethod::Tx(_) => refused(reply::NOT_IMPLEMENTED, "transactions", None),
             // no client sends any other
@@ -183,7 +161,7 @@ impl Broker {
         }
     }
 
-    fn tell_basic(&mut self, at: Place, method: Basic) -> Answer {
+    fn answer_basic(&mut self, at: Place, method: Basic) -> Answer {
         match method {
             Basic::Qos(qos) => self.set_qos(at, qos),
             Basic::Consume(consume) => self.consume(at, consume),
@@ -196,15 +174,6 @@ impl Broker {
             Basic::Recover(recover) => self.recover(at, recover.requeue),
             _ => Ok(None),
         }
-    }
-
-    /// Sends a method alone.
-    fn send(&mut self, at: Place, method: Method) -> Done {
-        if let Ok(message) = Message::try_plain(method) {
-            let end = &mut self.connection(at.0)?.link.end;
-            end.send(at.1, &message)?;
-        }
-        Ok(())
     }
 
     /// Closes the channel, or the connection, for a method of this kind.
@@ -253,6 +222,45 @@ impl Broker {
             self.remove_queue(queue);
         }
         self.connections.remove(&id);
+        Ok(())
+    }
+}
+
+impl Program for Broker {
+    fn has_work(&self) -> bool {
+        let mut links = self.connections.values().map(|connection| &connection.link);
+        links.any(|link| link.has_work() || link.is_done())
+    }
+
+    fn add(&mut self, _: &impl Connect, number: usize, stream: TcpStream) -> anyhow::Result<()> {
+        let connection = Connection::new(self.alloc, self.users.clone()?, stream)?;
+        self.connections.insert(number, connection)?;
+        Ok(())
+    }
+
+    fn note(&mut self, number: usize, event: &mio::event::Event) {
+        if let Some(connection) = self.connections.get_mut(&number) {
+            connection.link.note(event);
+        }
+    }
+
+    /// Gives each connection a turn, and each queue: it sends its messages to its consumers.
+    fn turn(&mut self, _: &impl Print, ticks: bool, room: &mut [u8]) -> anyhow::Result<()> {
+        let ids = self.connections.keys().copied();
+        let ids: Vec<usize> = ids.collect(self.alloc)?;
+        for id in ids {
+            let is_short = self.held.get() > BOUND;
+            let connection = self.connection(id)?;
+            let count = connection.turn(is_short, ticks, room);
+            if connection.link.is_done() {
+                self.remove_connection(id)?;
+            } else {
+                self.hear(id, &room[..count])?;
+            }
+        }
+        for queue in self.queues.values_mut() {
+            queue.deliver(&mut self.connections);
+        }
         Ok(())
     }
 }

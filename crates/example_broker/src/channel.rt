@@ -16,7 +16,6 @@ pub struct Consumer {
     pub tag: ShortStr,
     pub queue: QueueId,
     pub no_ack: bool,
-    /// How many messages it may have that wait.
     pub credit: Credit,
 }
 
@@ -33,6 +32,7 @@ pub struct Delivery {
 
 #[derive(Drop)]
 pub struct Channel {
+    alloc: Global,
     /// by their numbers
     pub consumers: BTreeMap<u64, Consumer>,
     /// by their delivery tags
@@ -53,6 +53,7 @@ pub struct Channel {
 impl Channel {
     pub fn new(alloc: Global, last_queue: ShortStr) -> Channel {
         Channel {
+            alloc,
             consumers: BTreeMap::new(alloc),
             unacked: BTreeMap::new(alloc),
             last_tag: 0,
@@ -105,23 +106,16 @@ impl Channel {
         Some(delivery)
     }
 
-    /// A message waits no more: the first with a tag from one to another.
-    fn settle_next(&mut self, first: u64, last: u64) -> Option<Delivery> {
-        let tag = *self.unacked.range(first..).next()?.0;
-        if tag > last { None } else { self.settle(tag) }
-    }
-
-    /// Messages wait no more: those with tags from one to another. They are done with, or go back to their queues.
+    /// Messages with tags in a range wait no more: they are done with, or go back to their queues.
     pub fn settle_in(&mut self, queues: &mut Queues, first: u64, last: u64, requeue: bool) -> Done {
-        for _ in 0..u64::MAX {
-            let Some(delivery) = self.settle_next(first, last) else {
-                break;
-            };
-            if let Some(queue) = queues.get_mut(&delivery.queue)
+        let tags = self.unacked.range(first..).map(|pair| *pair.0);
+        let tags: Vec<u64> = tags.take_while(|tag| *tag <= last).collect(self.alloc)?;
+        for tag in tags {
+            if let Some(delivery) = self.settle(tag)
+                && let Some(queue) = queues.get_mut(&delivery.queue)
                 && requeue
             {
-                let messages = &mut queue.messages;
-                messages.put_back(delivery.place, delivery.content)?;
+                queue.messages.put_back(delivery.place, delivery.content)?;
             }
         }
         Ok(())

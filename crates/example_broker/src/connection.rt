@@ -3,21 +3,27 @@ ghost use Rattle.std.specs.Prelude.{◌≤◌, length};
 
 use crate::channel::{Channel, Delivery};
 use crate::fault::{Done, Fault};
-use crate::queues::Queue;
+use crate::queues::{Queue, count};
 use amqp_core::{AskFault, End, Server};
+use amqp_typed::basic::{Deliver, GetOk};
 use amqp_value::ShortStr;
-use example_loop::Link;
+use example_loop::{FULL, Link, server_end};
 use mio::net::TcpStream;
 use std::alloc::Global;
 use std::collections::BTreeMap;
+use std::mem::replace;
+use std::rc::Rc;
 
-/// Where more octets wait to be written, the connection is not read, and gets no messages.
-const FULL: usize = 1_048_576;
+/// What clients look for before they use it.
+const ABILITIES: &str =
+    "publisher_confirms basic.nack per_consumer_qos connection.blocked authentication_failure_close";
 
 #[derive(Drop)]
 pub struct Connection {
     pub alloc: Global,
-    pub link: Link<Server>,
+    /// A line `name:password` for each.
+    pub users: Rc<String>,
+    pub link: Link<End<Server>>,
     pub channels: BTreeMap<u16, Channel>,
     /// The client wants to be told that it is held.
     pub hears_blocked: bool,
@@ -27,15 +33,17 @@ pub struct Connection {
 }
 
 impl Connection {
-    pub fn new(alloc: Global, stream: TcpStream, end: End<Server>) -> Connection {
-        Connection {
+    pub fn new(alloc: Global, users: Rc<String>, stream: TcpStream) -> anyhow::Result<Connection> {
+        let end = server_end(alloc, "example_broker", ABILITIES)?;
+        Ok(Connection {
             alloc,
+            users,
             link: Link::new(stream, end),
             channels: BTreeMap::new(alloc),
             hears_blocked: false,
             publishes: false,
             is_blocked: false,
-        }
+        })
     }
 
     /// Whether so little waits to be written that more may be added.
@@ -59,14 +67,11 @@ impl Connection {
 
     /// A client that publishes is not read while memory is short, and is told so if it wants to be.
     fn block(&mut self, is_blocked: bool) -> Done {
-        if self.is_blocked == is_blocked {
-            return Ok(());
-        }
-        self.is_blocked = is_blocked;
-        if self.hears_blocked && is_blocked {
+        let was_blocked = replace(&mut self.is_blocked, is_blocked);
+        if self.hears_blocked && is_blocked && !was_blocked {
             let reason = ShortStr::text(self.alloc, "low on memory")?;
             self.link.end.blocked(&reason)?;
-        } else if self.hears_blocked {
+        } else if self.hears_blocked && was_blocked && !is_blocked {
             self.link.end.unblocked()?;
         }
         Ok(())
@@ -82,11 +87,10 @@ impl Connection {
         Ok(self.channels.get_mut(&number).ok_or(AskFault::NotOpen)?)
     }
 
-    /// Offers a consumer the first ready message of a queue. It answers whether the message was sent.
+    /// Sends a consumer the first message of a queue, if it may have one. It answers whether it did.
     pub fn offer(&mut self, queue: &mut Queue, number: u16, id: u64) -> Result<bool, Fault> {
         let has_room = self.has_room();
-        let channel = self.channel(number)?;
-        match channel.ready_consumer(id) {
+        match self.channel(number)?.ready_consumer(id) {
             Some(consumer) if has_room => {
                 let (tag, no_ack) = (consumer.tag.copy()?, consumer.no_ack);
                 self.send_first(queue, number, Some((id, tag)), no_ack)
@@ -95,8 +99,8 @@ impl Connection {
         }
     }
 
-    /// Sends the first ready message of a queue, to a consumer with this tag or in answer to basic.get. It answers
-    /// whether there was one. The body is lent to the end, which copies it into its output.
+    /// Sends the first message of a queue, to a consumer with this tag or in answer to basic.get. It answers whether
+    /// there was one. The body is lent to the end, which copies it into its output.
     pub fn send_first(
         &mut self,
         queue: &mut Queue,
@@ -104,26 +108,35 @@ impl Connection {
         consumer: Option<(u64, ShortStr)>,
         no_ack: bool,
     ) -> Result<bool, Fault> {
-        let left = queue.messages.ready_count().saturating_sub(1);
-        let Some((place, entry)) = queue.messages.first() else {
+        let Some((place, content)) = queue.messages.first() else {
             return Ok(false);
         };
         let channel = self.channels.get_mut(&number).ok_or(AskFault::NotOpen)?;
-        let tag = channel.last_tag.saturating_add(1);
-        channel.last_tag = tag;
+        channel.last_tag = channel.last_tag.saturating_add(1);
+        let (tag, redelivered) = (channel.last_tag, queue.messages.was_sent(place));
+        let exchange = content.publish.exchange.copy()?;
+        let key = content.publish.routing_key.copy()?;
         let (id, consumer_tag) = consumer.unzip();
-        let method = entry.heading(self.alloc, tag, consumer_tag, left)?;
+        let method = if let Some(consumer_tag) = consumer_tag {
+            let mut deliver = Deliver::new(consumer_tag, tag, exchange, key);
+            deliver.redelivered = redelivered;
+            deliver.into_method(self.alloc)?
+        } else {
+            let left = count(queue.messages.count().saturating_sub(1));
+            let mut ok = GetOk::new(tag, exchange, key, left);
+            ok.redelivered = redelivered;
+            ok.into_method(self.alloc)?
+        };
         if !no_ack {
-            let content = entry.content.clone()?;
             let delivery = Delivery {
                 queue: queue.id,
                 place,
-                content,
+                content: content.clone()?,
                 consumer: id,
             };
             channel.await_ack(tag, delivery)?;
         }
-        let (end, content) = (&mut self.link.end, &entry.content);
+        let end = &mut self.link.end;
         end.send_content(number, &method, &content.properties, &content.body)?;
         queue.messages.remove(place);
         Ok(true)

@@ -1,14 +1,15 @@
-//! Exchanges: how each was declared, and its bindings.
+//! Exchanges: how each was declared, its bindings, and which of them a message takes.
+ghost use Rattle.std.specs.Prelude.{◌≡◌, ◌↔◌, true, false, Contains};
+
 use crate::broker::Broker;
 use crate::fault::{Answer, Done, Fault, answer, refused};
-use crate::headers::headers_match;
 use crate::messages::Content;
 use crate::queues::{Place, QueueId};
 use crate::topic::topic_matches;
 use amqp_method::reply;
 use amqp_typed::exchange::{self, Declare};
 use amqp_typed::queue;
-use amqp_value::{ShortStr, Table};
+use amqp_value::{ShortStr, Table, Value};
 use std::alloc::{AllocError, Global};
 use std::collections::BTreeMap;
 
@@ -68,12 +69,34 @@ impl Exchange {
     }
 }
 
-/// Clients neither make nor delete what has no name, or one that begins so.
-pub fn check_not_reserved(name: &ShortStr) -> Done {
-    if name.is_empty() || name.as_bytes().starts_with(b"amq.") {
-        return refused(reply::ACCESS_REFUSED, "reserved name", Some(name));
+/// Whether a binding's arguments are among the headers with the same values: all of them, or, with `x-match` `any`, at
+/// least one. One without a value asks for the name alone, and names that begin with `x-` don't count.
+fn headers_match(
+    alloc: Global,
+    arguments: &Table,
+    headers: Option<&Table>,
+) -> Result<bool, AllocError> {
+    let mut tests = Vec::new(alloc);
+    for (name, wanted) in arguments.pairs() {
+        if !name.as_bytes().starts_with(b"x-") {
+            let value = headers.and_then(|headers| headers.get(name.as_bytes()));
+            tests.push(value.is_some_and(|value| *wanted == Value::Void || *wanted == *value))?;
+        }
     }
-    Ok(())
+    let x_match = arguments.get(b"x-match").and_then(Value::as_bytes);
+    Ok(tests_suffice(x_match == Some(b"any".as_slice()), &tests))
+}
+
+/// Whether so many tests hold as a binding asks for: one of them, or all.
+fn tests_suffice(any: bool, tests: &[bool]) -> bool
+    ensures any { any ≡ true → ((result ≡ true) ↔ Contains tests.now true) }
+    ensures all { any ≡ false → ((result ≡ false) ↔ Contains tests.now false) }
+{
+    if any {
+        tests.contains(&true)
+    } else {
+        !tests.contains(&false)
+    }
 }
 
 /// A declaration as it is kept, and compared with a later one.
@@ -81,6 +104,14 @@ fn kept(mut declare: Declare, alloc: Global) -> Declare {
     declare.no_wait = false;
     declare.arguments = Table::new(alloc);
     declare
+}
+
+/// Clients neither make nor delete what has no name, or one that begins so.
+pub fn check_not_reserved(name: &ShortStr) -> Done {
+    if name.is_empty() || name.as_bytes().starts_with(b"amq.") {
+        return refused(reply::ACCESS_REFUSED, "reserved name", Some(name));
+    }
+    Ok(())
 }
 
 impl Broker {
@@ -129,23 +160,16 @@ impl Broker {
         Ok(exchange.route(alloc, message)?)
     }
 
-    /// Whether the exchange is there, and if so declared like this.
-    fn is_declared(&self, declare: &Declare) -> Result<bool, Fault> {
-        let name = &declare.exchange;
-        match self.exchanges.get(name.as_bytes()) {
-            Some(own) if own.declare != *declare => {
-                let why = "declared otherwise: exchange";
-                refused(reply::PRECONDITION_FAILED, why, Some(name))
-            }
-            own => Ok(own.is_some()),
-        }
-    }
-
     pub fn declare_exchange(&mut self, declare: Declare) -> Answer {
         let declare = kept(declare, self.alloc);
         if declare.passive {
             self.exchange(&declare.exchange)?;
-        } else if !self.is_declared(&declare)? {
+        } else if let Some(own) = self.exchanges.get(declare.exchange.as_bytes()) {
+            if own.declare != declare {
+                let why = "declared otherwise: exchange";
+                return refused(reply::PRECONDITION_FAILED, why, Some(&declare.exchange));
+            }
+        } else {
             check_not_reserved(&declare.exchange)?;
             self.add_exchange(declare)?;
         }
@@ -164,9 +188,10 @@ impl Broker {
     }
 
     pub fn bind_queue(&mut self, at: Place, bind: queue::Bind) -> Answer {
+        let (queue, key) = (self.queue(at, &bind.queue)?.id, bind.routing_key);
         let binding = Binding {
-            queue: self.queue(at, &bind.queue)?.id,
-            key: bind.routing_key,
+            queue,
+            key,
             arguments: bind.arguments,
         };
         let bindings = &mut self.exchange(&bind.exchange)?.bindings;
@@ -177,13 +202,14 @@ impl Broker {
     }
 
     pub fn unbind_queue(&mut self, at: Place, unbind: queue::Unbind) -> Answer {
+        let (queue, key) = (self.queue(at, &unbind.queue)?.id, unbind.routing_key);
         let binding = Binding {
-            queue: self.queue(at, &unbind.queue)?.id,
-            key: unbind.routing_key,
+            queue,
+            key,
             arguments: unbind.arguments,
         };
         let exchange = self.exchange(&unbind.exchange)?;
-        if exchange.unbind(binding.queue, Some(&binding)) {
+        if exchange.unbind(queue, Some(&binding)) {
             self.exchanges.remove(unbind.exchange.as_bytes());
         }
         answer(queue::UnbindOk::new().into_method(self.alloc))

@@ -7,11 +7,10 @@ use thiserror::Error;
 
 #[derive(Debug, Drop, Error)]
 pub enum Fault {
-    /// What it asks for is refused: the client is told by a close with this code, why it is, and the name that it is about. A hard
-    /// code closes the connection, a soft one the channel alone.
+    /// The client is told by a close with this code, why it is, and the name that it is about.
     #[error("{1} {2:?}")]
     Refused(u16, &'static str, Option<ShortStr>),
-    /// It can't be answered, for this reason or one of those below: the connection is given up.
+    /// The connection is given up, for this reason or one of those below.
     #[error(transparent)]
     Unanswered(#[from] AskFault),
     #[error(transparent)]
@@ -20,7 +19,6 @@ pub enum Fault {
     Value(#[from] amqp_value::OutOfMemory),
     #[error(transparent)]
     Method(#[from] OutOfMemory),
-    /// A string that the broker makes is too long, which none is.
     #[error(transparent)]
     Text(#[from] ValueFault),
 }
@@ -42,8 +40,7 @@ pub fn refused<T>(code: u16, why: &'static str, name: Option<&ShortStr>) -> Resu
 }
 
 impl Fault {
-    /// The code and the text of the close by which the client is told, or the fault where it isn't. A close takes 255
-    /// octets of text.
+    /// The code of the close by which the client is told, and as much of the text as it takes.
     pub fn into_close(self, alloc: Global) -> Result<(u16, ShortStr), Fault> {
         let Fault::Refused(code, why, name) = self else {
             return Err(self);
@@ -54,9 +51,7 @@ impl Fault {
             None => format!(in alloc; "{kind} - {why}")?,
         };
         let octets = text.as_bytes();
-        Ok((
-            code,
-            ShortStr::new(alloc, &octets[..octets.len().min(255)])?,
-        ))
+        let octets = &octets[..octets.len().min(255)];
+        Ok((code, ShortStr::new(alloc, octets)?))
     }
 }

@@ -3,11 +3,8 @@ ghost use Rattle.std.specs.Prelude.{ℕ, ◌≡◌, ◌<◌, true, is_some};
 ghost use Rattle.std.specs.Ordering.{nat_cmp};
 ghost use Rattle.std.specs.BTreeMap as tree;
 
-use crate::fault::Fault;
-use crate::queues::count;
-use amqp_method::{Method, Properties};
-use amqp_typed::basic::{Deliver, GetOk, Publish};
-use amqp_value::ShortStr;
+use amqp_method::Properties;
+use amqp_typed::basic::Publish;
 use std::alloc::{AllocError, Global};
 use std::cell::Cell;
 use std::collections::BTreeMap;
@@ -26,7 +23,7 @@ pub struct Content {
 }
 
 /// So many octets are counted among those that all messages hold, for as long as the share is kept.
-pub struct Share(pub usize, pub Rc<Cell<usize>>);
+pub struct Share(usize, Rc<Cell<usize>>);
 
 impl Share {
     /// The share of a message with a body of this length.
@@ -44,49 +41,14 @@ impl Drop for Share {
     }
 }
 
-/// A message in a queue.
-#[derive(Drop)]
-pub struct Entry {
-    pub content: Rc<Content>,
-    /// It was sent before, and came back.
-    redelivered: bool,
-}
-
-impl Entry {
-    fn new(content: Rc<Content>, redelivered: bool) -> Entry {
-        Entry {
-            content,
-            redelivered,
-        }
-    }
-
-    /// What comes before the message: for a consumer, or for a client that asked for one, where so many are left.
-    pub fn heading(
-        &self,
-        alloc: Global,
-        tag: u64,
-        consumer: Option<ShortStr>,
-        left: usize,
-    ) -> Result<Method, Fault> {
-        let exchange = self.content.publish.exchange.copy()?;
-        let key = self.content.publish.routing_key.copy()?;
-        if let Some(consumer) = consumer {
-            let mut deliver = Deliver::new(consumer, tag, exchange, key);
-            deliver.redelivered = self.redelivered;
-            return Ok(deliver.into_method(alloc)?);
-        }
-        let mut ok = GetOk::new(tag, exchange, key, count(left));
-        ok.redelivered = self.redelivered;
-        Ok(ok.into_method(alloc)?)
-    }
-}
-
 /// The messages of a queue that are ready. Each has a place, which says when it came.
 #[derive(Drop)]
 pub struct Messages {
-    ready: BTreeMap<u64, Entry>,
+    ready: BTreeMap<u64, Rc<Content>>,
     /// the place of the next that comes
     next: u64,
+    /// the first place that was never sent: of those before it, all were
+    unsent: u64,
     ghost ready_came: { (place : ℕ) → is_some (tree.get nat_cmp ready place) ≡ true → place < next },
 }
 
@@ -98,11 +60,15 @@ impl Messages {
         ensures { (place : ℕ) → is_ready result place ≡ false }
     {
         let ready = BTreeMap::new(alloc);
-        Messages { ready, next: 0 }
+        Messages {
+            ready,
+            next: 0,
+            unsent: 0,
+        }
     }
 
     /// How many are ready.
-    pub fn ready_count(&self) -> usize {
+    pub fn count(&self) -> usize {
         self.ready.len()
     }
 
@@ -113,17 +79,22 @@ impl Messages {
     {
         let place = self.next;
         self.next = place.checked_add(1).ok_or(AllocError)?;
-        self.ready.insert(place, Entry::new(content, false))?;
+        self.ready.insert(place, content)?;
         Ok(())
     }
 
     /// The message that came first, with its place.
-    pub fn first(&self) -> Option<(u64, &Entry)>
+    pub fn first(&self) -> Option<(u64, &Rc<Content>)>
         ensures first { IfSome result (λ found. IsFirst self.now found.0) }
         ensures none { IfNone result ((place : ℕ) → is_ready self.now place ≡ false) }
     {
-        let (place, entry) = self.ready.first_key_value()?;
-        Some((*place, entry))
+        let (place, content) = self.ready.first_key_value()?;
+        Some((*place, content))
+    }
+
+    /// Whether the message at a place was sent before. They are sent in order, so those before it were too.
+    pub fn was_sent(&self, place: u64) -> bool {
+        place < self.unsent
     }
 
     /// The message at a place was sent.
@@ -131,6 +102,7 @@ impl Messages {
         ensures { Readies self.old self.new place false }
     {
         self.ready.remove(&place);
+        self.unsent = self.unsent.max(place.saturating_add(1));
     }
 
     /// A message that was sent comes back, to the place that it had.
@@ -138,7 +110,7 @@ impl Messages {
         ensures { OnOk result (place < self.old.next → Readies self.old self.new place true) }
     {
         if place < self.next {
-            self.ready.insert(place, Entry::new(content, true))?;
+            self.ready.insert(place, content)?;
         }
         Ok(())
     }

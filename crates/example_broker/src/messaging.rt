@@ -3,58 +3,39 @@ use crate::broker::Broker;
 use crate::channel::Consumer;
 use crate::credit::Credit;
 use crate::fault::{Answer, Done, answer, refused};
-use crate::messages::{Content, Share};
-use crate::queues::{Place, QueueId};
+use crate::messages::Content;
+use crate::queues::Place;
 use amqp_core::AskFault;
-use amqp_method::{Method, Properties, reply};
-use amqp_typed::basic::{self, Publish};
-use amqp_typed::confirm;
+use amqp_method::reply;
+use amqp_typed::{basic, confirm};
 use amqp_value::ShortStr;
 use std::rc::Rc;
 
 impl Broker {
     /// Hands a message to the queues that it is bound for. A mandatory one that none takes is sent back.
     /// Either way it is confirmed, if the client asked for confirms.
-    pub fn publish(
-        &mut self,
-        at: Place,
-        method: Method,
-        properties: Properties,
-        body: Vec<u8>,
-    ) -> Answer {
-        // a client sends contents after basic.publish alone
-        let Ok(publish) = Publish::from_method(method) else {
-            return Ok(None);
-        };
-        if publish.immediate {
+    pub fn publish(&mut self, at: Place, content: Content) -> Answer {
+        if content.publish.immediate {
             return refused(reply::NOT_IMPLEMENTED, "immediate=true", None);
         }
-        let share = Share::new(body.len(), &self.held)?;
-        let content = Content {
-            publish,
-            properties,
-            body,
-            share,
-        };
         let queues = self.route(&content)?;
-        if !queues.is_empty() {
-            self.enqueue(&queues, content)?;
-        } else if content.publish.mandatory {
+        if queues.is_empty() && content.publish.mandatory {
             self.send_back(at, content)?;
-        }
-        self.connection(at.0)?.publishes = true;
-        self.confirm(at)
-    }
-
-    /// Adds a message to queues, which share it.
-    fn enqueue(&mut self, queues: &[QueueId], content: Content) -> Done {
-        let content = Rc::new(self.alloc, content)?;
-        for id in queues {
-            if let Some(queue) = self.queues.get_mut(id) {
-                queue.messages.push(content.clone()?)?;
+        } else {
+            let content = Rc::new(self.alloc, content)?;
+            for id in &queues {
+                if let Some(queue) = self.queues.get_mut(id) {
+                    queue.messages.push(content.clone()?)?;
+                }
             }
         }
-        Ok(())
+        let connection = self.connection(at.0)?;
+        connection.publishes = true;
+        let Some(published) = &mut connection.channel(at.1)?.published else {
+            return Ok(None);
+        };
+        *published = published.saturating_add(1);
+        answer(basic::Ack::new(*published).into_method(self.alloc))
     }
 
     /// Sends back a message that no queue takes.
@@ -73,16 +54,6 @@ impl Broker {
         let channel = self.channel(at)?;
         channel.published = channel.published.or(Some(0));
         answer(confirm::SelectOk::new().into_method(self.alloc))
-    }
-
-    /// Confirms the next message, if the client asked for confirms.
-    fn confirm(&mut self, at: Place) -> Answer {
-        let Some(published) = &mut self.channel(at)?.published else {
-            return Ok(None);
-        };
-        *published = published.saturating_add(1);
-        let ack = basic::Ack::new(*published);
-        answer(ack.into_method(self.alloc))
     }
 
     /// From now on so many messages may wait to be acknowledged: of each new consumer, or of the whole channel.
@@ -108,8 +79,7 @@ impl Broker {
         if queue.is_taken || (consume.exclusive && !queue.consumers.is_empty()) {
             return refused(reply::ACCESS_REFUSED, "in exclusive use", None);
         }
-        let queue = queue.id;
-        let ok = basic::ConsumeOk::new(tag.copy()?);
+        let (queue, ok) = (queue.id, basic::ConsumeOk::new(tag.copy()?));
         let channel = self.channel(at)?;
         if channel.consumer_with(&tag).is_some() {
             return refused(reply::NOT_ALLOWED, "consumer tag in use:", Some(&tag));
@@ -143,8 +113,7 @@ impl Broker {
     pub fn get(&mut self, at: Place, get: basic::Get) -> Answer {
         let id = self.queue(at, &get.queue)?.id;
         let queue = self.queues.get_mut(&id).ok_or(AskFault::NotOpen)?;
-        let connection = self.connections.get_mut(&at.0);
-        let connection = connection.ok_or(AskFault::NotOpen)?;
+        let connection = self.connections.get_mut(&at.0).ok_or(AskFault::NotOpen)?;
         if connection.send_first(queue, at.1, None, get.no_ack)? {
             return Ok(None);
         }
@@ -154,8 +123,8 @@ impl Broker {
     /// Messages that were sent are done with: one, or with `multiple` all up to it, where 0 stands for the
     /// last. They leave their queues, or go back to them.
     pub fn settle(&mut self, at: Place, tag: u64, multiple: bool, requeue: bool) -> Answer {
-        let connection = self.connections.get_mut(&at.0);
-        let channel = connection.ok_or(AskFault::NotOpen)?.channel(at.1)?;
+        let connection = self.connections.get_mut(&at.0).ok_or(AskFault::NotOpen)?;
+        let channel = connection.channel(at.1)?;
         let last = if multiple && tag == 0 { u64::MAX } else { tag };
         if last == tag && !channel.unacked.contains_key(&tag) {
             return refused(reply::PRECONDITION_FAILED, "unknown delivery tag", None);

@@ -35,30 +35,18 @@ pub struct Queue {
 }
 
 impl Queue {
-    /// A consumer is gone. It answers whether the queue goes with it.
-    fn remove_consumer(&mut self, id: u64) -> bool {
-        self.consumers.retain(|seat| seat.1 != id);
-        self.is_taken &= !self.consumers.is_empty();
-        self.declare.auto_delete && self.consumers.is_empty()
-    }
-
-    fn ready(&self) -> u32 {
-        count(self.messages.ready_count())
-    }
-
     /// Sends messages to the consumers by turns, until there are none or no consumer may be sent one.
     pub fn deliver(&mut self, connections: &mut BTreeMap<usize, Connection>) {
         let mut passed = 0;
         for _ in 0..u64::MAX {
-            if passed >= self.consumers.len() || self.messages.ready_count() == 0 {
+            if passed >= self.consumers.len() || self.messages.count() == 0 {
                 break;
             }
-            let Some((at, id)) = self.consumers.front().copied() else {
-                break;
-            };
             self.consumers.rotate_left(1);
             passed += 1;
-            if let Some(connection) = connections.get_mut(&at.0) {
+            if let Some((at, id)) = self.consumers.back().copied()
+                && let Some(connection) = connections.get_mut(&at.0)
+            {
                 match connection.offer(self, at.1, id) {
                     Ok(true) => passed = 0,
                     Ok(false) => {}
@@ -69,12 +57,7 @@ impl Queue {
     }
 }
 
-/// A number of messages or consumers, as methods have it.
-pub fn count(number: usize) -> u32 {
-    u32::try_from(number).unwrap_or(u32::MAX)
-}
-
-/// A declaration of the queue of that name, as it is kept, and compared with a later one.
+/// A declaration of a queue with this name as it is kept, and compared with a later one.
 fn kept(mut declare: Declare, name: ShortStr, alloc: Global) -> Declare {
     declare.queue = name;
     declare.no_wait = false;
@@ -82,9 +65,13 @@ fn kept(mut declare: Declare, name: ShortStr, alloc: Global) -> Declare {
     declare
 }
 
+/// A number of messages or consumers, as methods have it.
+pub fn count(number: usize) -> u32 {
+    u32::try_from(number).unwrap_or(u32::MAX)
+}
+
 impl Broker {
-    /// The name of a queue that a method means: an empty one stands for the queue that was declared last on
-    /// the channel.
+    /// The name of a queue that a method means: an empty one stands for the one declared last on the channel.
     fn queue_name(&mut self, at: Place, name: &ShortStr) -> Result<ShortStr, Fault> {
         if name.is_empty() {
             return Ok(self.channel(at)?.last_queue.copy()?);
@@ -122,7 +109,7 @@ impl Broker {
             self.add_queue(at, declare)?;
         }
         let queue = self.queue(at, &name)?;
-        let (ready, consumers) = (queue.ready(), count(queue.consumers.len()));
+        let (ready, consumers) = (count(queue.messages.count()), count(queue.consumers.len()));
         self.channel(at)?.last_queue = name.copy()?;
         answer(queue::DeclareOk::new(name, ready, consumers).into_method(self.alloc))
     }
@@ -145,16 +132,18 @@ impl Broker {
 
     /// Sees that a queue is there, and is as declared.
     fn check_declared(&mut self, at: Place, declare: &Declare) -> Done {
+        let name = Some(&declare.queue);
         let own = &self.queue(at, &declare.queue)?.declare;
         if declare.passive || *own == *declare {
             return Ok(());
+        } else if own.exclusive != declare.exclusive {
+            return refused(reply::RESOURCE_LOCKED, "another has queue", name);
         }
-        let (code, why) = if own.exclusive == declare.exclusive {
-            (reply::PRECONDITION_FAILED, "declared otherwise: queue")
-        } else {
-            (reply::RESOURCE_LOCKED, "another has queue")
-        };
-        refused(code, why, Some(&declare.queue))
+        refused(
+            reply::PRECONDITION_FAILED,
+            "declared otherwise: queue",
+            name,
+        )
     }
 
     pub fn delete_queue(&mut self, at: Place, delete: queue::Delete) -> Answer {
@@ -163,7 +152,7 @@ impl Broker {
         if self.names.contains_key(name.as_bytes()) {
             let queue = self.queue(at, &name)?;
             let (id, is_used) = (queue.id, !queue.consumers.is_empty());
-            ready = queue.ready();
+            ready = count(queue.messages.count());
             if (delete.if_unused && is_used) || (delete.if_empty && ready > 0) {
                 return refused(reply::PRECONDITION_FAILED, "in use: queue", Some(&name));
             }
@@ -173,18 +162,22 @@ impl Broker {
     }
 
     pub fn purge_queue(&mut self, at: Place, purge: queue::Purge) -> Answer {
-        let queue = self.queue(at, &purge.queue)?;
-        let ready = queue.ready();
-        queue.messages.purge();
+        let messages = &mut self.queue(at, &purge.queue)?.messages;
+        let ready = count(messages.count());
+        messages.purge();
         answer(queue::PurgeOk::new(ready).into_method(self.alloc))
     }
 
-    /// A consumer is gone, and perhaps its queue with it.
-    pub fn remove_consumer(&mut self, queue: QueueId, consumer: u64) {
-        if let Some(left) = self.queues.get_mut(&queue)
-            && left.remove_consumer(consumer)
-        {
-            self.remove_queue(queue);
+    /// A consumer is gone, and with the last one a queue that deletes itself.
+    pub fn remove_consumer(&mut self, id: QueueId, consumer: u64) {
+        if let Some(queue) = self.queues.get_mut(&id) {
+            queue.consumers.retain(|seat| seat.1 != consumer);
+            if queue.consumers.is_empty() {
+                queue.is_taken = false;
+                if queue.declare.auto_delete {
+                    self.remove_queue(id);
+                }
+            }
         }
     }
 
@@ -197,8 +190,8 @@ impl Broker {
                     channel.consumers.remove(id);
                 }
             }
-            let exchanges = &mut self.exchanges;
-            exchanges.retain(|_, exchange| !exchange.unbind(id, None));
+            self.exchanges
+                .retain(|_, exchange| !exchange.unbind(id, None));
         }
     }
 }

@@ -1,9 +1,18 @@
-//! What the broker and the proxy share: the wait for many sockets in one thread, and a connection's end with its socket.
+//! What programs on ends share: the wait for many sockets in one thread, an end with its socket, contents that come in
+//! parts, and a hello.
 #![tactic(auto)]
 
+mod contents;
+mod ends;
+mod hello;
 mod link;
 mod pulse;
+mod running;
 mod sockets;
 
-pub use crate::link::Link;
-pub use crate::sockets::Sockets;
+pub use crate::contents::{Coming, Content};
+pub use crate::ends::AnyEnd;
+pub use crate::hello::{client_end, server_end, word_after};
+pub use crate::link::{FULL, Heard, Link};
+pub use crate::running::{Program, serve};
+pub use crate::sockets::Connect;

@@ -1,15 +1,20 @@
 //! One end of a connection with its socket, which never waits.
-ghost use Rattle.std.specs.Prelude.{◌≡◌, ◌≤◌, length};
+ghost use Rattle.std.specs.Prelude.{◌≡◌, ◌≤◌, IfSome, length};
 
+use crate::ends::AnyEnd;
 use crate::pulse::Pulse;
-use amqp_core::{End, Event, Phase, Role};
+use amqp_core::{Cause, End, Event, EventRef, Phase, Role, StreamEnd};
+use amqp_method::Kind;
 use mio::event;
 use mio::net::TcpStream;
-use std::io::{ErrorKind, Read, Write};
+use std::io::{ErrorKind, Read};
+
+/// Where more octets wait to be written, no more are to be made: a program doesn't read who asks for them.
+pub const FULL: usize = 1_048_576;
 
 #[derive(Drop)]
-pub struct Link<R: Role> {
-    pub end: End<R>,
+pub struct Link<E: AnyEnd> {
+    pub end: E,
     stream: TcpStream,
     /// As far as it is known, the socket has octets to read.
     can_read: bool,
@@ -22,8 +27,8 @@ pub struct Link<R: Role> {
     pulse: Pulse,
 }
 
-impl<R: Role> Link<R> {
-    pub fn new(stream: TcpStream, end: End<R>) -> Link<R> {
+impl<E: AnyEnd> Link<E> {
+    pub fn new(stream: TcpStream, end: E) -> Link<E> {
         Link {
             end,
             stream,
@@ -48,12 +53,12 @@ impl<R: Role> Link<R> {
 
     /// Whether nothing is left to do.
     pub fn is_done(&self) -> bool {
-        self.is_gone || (self.is_over() && self.end.output().is_empty())
+        self.is_gone || (self.is_over() && !self.end.has_output())
     }
 
     /// Whether there is something to do at once.
     pub fn has_work(&self) -> bool {
-        let can_write = self.can_write && !self.is_gone && !self.end.output().is_empty();
+        let can_write = self.can_write && !self.is_gone && self.end.has_output();
         can_write || (self.can_read && !self.is_held && !self.is_over())
     }
 
@@ -75,16 +80,31 @@ impl<R: Role> Link<R> {
 
     /// Writes once what waits, as far as the socket takes it.
     pub fn write(&mut self) {
-        if self.is_gone || self.end.output().is_empty() {
+        if self.is_gone || !self.end.has_output() {
             return;
         }
-        match self.stream.write(self.end.output()) {
-            Ok(count) => self.end.wrote(count),
+        match self.end.write_to(&mut self.stream) {
+            Ok(()) => {}
             Err(failure) if failure.kind() == ErrorKind::WouldBlock => self.can_write = false,
             Err(_) => self.is_gone = true,
         }
     }
 
+    /// Half a second passed: puts a heartbeat if one is due, and gives up a peer that fell silent though it is read.
+    pub fn tick(&mut self) {
+        let (frames, octets) = self.end.counts();
+        self.pulse.tick(frames, octets, !self.is_held);
+        let heartbeat = self.end.heartbeat();
+        if heartbeat > 0 && self.pulse.is_over(heartbeat) {
+            self.is_gone = true;
+        } else if heartbeat > 0 && self.pulse.owes_beat(heartbeat) && !self.end.has_output() {
+            // refused where the connection isn't open any more, and then none is due
+            let _ = self.end.beat();
+        }
+    }
+}
+
+impl<R: Role> Link<End<R>> {
     /// Feeds the end up to its next event. None: all octets are taken, or the end takes no more.
     pub fn hear(&mut self, octets: &mut &[u8]) -> Option<Event> {
         for _ in 0..u64::MAX {
@@ -101,17 +121,55 @@ impl<R: Role> Link<R> {
         }
         None
     }
+}
 
-    /// Half a second passed: puts a heartbeat if one is due, and gives up a peer that fell silent though it is read.
-    pub fn tick(&mut self) {
-        let (frames, octets) = (self.end.frames_taken(), self.end.octets_written());
-        self.pulse.tick(frames, octets, !self.is_held);
-        let heartbeat = self.end.heartbeat();
-        if heartbeat > 0 && self.pulse.is_over(heartbeat) {
-            self.is_gone = true;
-        } else if heartbeat > 0 && self.pulse.owes_beat(heartbeat) && self.end.output().is_empty() {
-            // refused where the connection isn't open any more, and then none is due
-            let _ = self.end.beat();
+/// An event as it is heard.
+#[derive(Clone, Copy)]
+pub struct Heard<'a> {
+    /// The channel that it tells of, or 0.
+    pub number: u16,
+    pub event: EventRef<'a>,
+    /// Of a close: the kind of the method that it is about, if it names one.
+    pub about: Option<Kind>,
+}
+
+impl<R: Role> Link<StreamEnd<R>> {
+    /// Takes octets up to the end of a frame, and answers how many, and what the frame says, if it is whole. None: all
+    /// octets are taken, or the end takes no more.
+    pub fn hear_ref<'a>(&'a mut self, octets: &'a [u8]) -> Option<(usize, Option<Heard<'a>>)>
+        ensures within { IfSome result (λ taken. taken.0 ≤ length octets.now) }
+    {
+        if octets.is_empty() || self.is_over() {
+            return None;
         }
+        let Ok(step) = self.end.advance(octets) else {
+            return None;
+        };
+        let taken = step.octets;
+        let about = self.end.closed_for().and_then(Cause::kind);
+        match self.end.event(step) {
+            Some(event) => {
+                let number = number_of(event);
+                let heard = Heard {
+                    number,
+                    event,
+                    about,
+                };
+                Some((taken, Some(heard)))
+            }
+            None => Some((taken, None)),
+        }
+    }
+}
+
+/// The channel that an event tells of, or 0.
+fn number_of(event: EventRef<'_>) -> u16 {
+    match event {
+        EventRef::Opened(number) | EventRef::Method(number, _) => number,
+        EventRef::Begins(number, _) | EventRef::Heads(number, _, _) => number,
+        EventRef::Part(number, _, _) | EventRef::Flow(number, _) => number,
+        EventRef::FlowOk(number, _) | EventRef::ChannelClosed(number, _) => number,
+        EventRef::Discarded(number) => number,
+        _ => 0,
     }
 }

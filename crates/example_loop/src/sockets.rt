@@ -3,27 +3,37 @@ use mio::net::{TcpListener, TcpStream};
 use mio::{Events, Interest, Poll, Token};
 use std::alloc::Global;
 use std::io;
-use std::net::{self, Net};
+use std::net::{self, Net, SocketAddr};
 use std::time::{Clock, Duration, Instant};
 
 /// So many milliseconds pass from tick to tick.
 const TICK: u64 = 500;
 
+/// Connects a program to others.
+pub trait Connect {
+    /// Begins to connect to an address. The socket is waited for too, under a number that may be another's as well.
+    fn connect(&self, number: usize, address: SocketAddr) -> io::Result<TcpStream>;
+}
+
 /// A listening socket, and the wait for it and for those that it has accepted.
 #[derive(Drop)]
-pub struct Sockets<'a, R: Net + Clock> {
+pub(crate) struct Sockets<'a, R: Net + Clock> {
     rt: &'a R,
     poll: Poll,
     /// What the last wait found ready: the listener by the token 0, connections by their numbers, from 1 on.
-    pub events: Events,
-    pub listener: TcpListener,
+    pub(crate) events: Events,
+    pub(crate) listener: TcpListener,
     last: usize,
     ticked: Instant,
 }
 
 impl<'a, R: Net<Stream = net::TcpStream, Listener = net::TcpListener> + Clock> Sockets<'a, R> {
     /// Listens at an address.
-    pub fn listen(rt: &'a R, alloc: Global, address: &str) -> anyhow::Result<Sockets<'a, R>> {
+    pub(crate) fn listen(
+        rt: &'a R,
+        alloc: Global,
+        address: &str,
+    ) -> anyhow::Result<Sockets<'a, R>> {
         let listener = net::TcpListener::bind(rt, address)?;
         listener.set_nonblocking(true)?;
         let mut listener = TcpListener::from_std(listener);
@@ -41,7 +51,7 @@ impl<'a, R: Net<Stream = net::TcpStream, Listener = net::TcpListener> + Clock> S
     }
 
     /// Waits for a socket or the next tick, or not at all where there is something to do. Answers whether it ticks.
-    pub fn wait(&mut self, is_busy: bool) -> io::Result<bool> {
+    pub(crate) fn wait(&mut self, is_busy: bool) -> io::Result<bool> {
         let tick = Duration::from_millis(TICK);
         let left = tick.saturating_sub(self.ticked.elapsed(self.rt)?);
         let wait = if is_busy { Duration::ZERO } else { left };
@@ -54,14 +64,13 @@ impl<'a, R: Net<Stream = net::TcpStream, Listener = net::TcpListener> + Clock> S
     }
 
     /// The next who connects, with a number of its own. One that can't be served is dropped.
-    pub fn accept(&mut self) -> Option<(usize, TcpStream)> {
+    pub(crate) fn accept(&mut self) -> Option<(usize, TcpStream)> {
         let (stream, _) = self.listener.accept().ok()?;
         self.last = self.last.saturating_add(1);
         Some((self.last, self.register(self.last, stream).ok()?))
     }
 
-    /// Waits for a socket too, under a number that may be another's as well.
-    pub fn register(&self, number: usize, mut stream: TcpStream) -> io::Result<TcpStream> {
+    fn register(&self, number: usize, mut stream: TcpStream) -> io::Result<TcpStream> {
         stream.set_nodelay(true)?;
         let (registry, both_ways) = (
             self.poll.registry(),
@@ -69,5 +78,12 @@ impl<'a, R: Net<Stream = net::TcpStream, Listener = net::TcpListener> + Clock> S
         );
         registry.register(&mut stream, Token(number), both_ways)?;
         Ok(stream)
+    }
+}
+
+impl<R: Net<Stream = net::TcpStream, Listener = net::TcpListener> + Clock> Connect
+    for Sockets<'_, R> {
+    fn connect(&self, number: usize, address: SocketAddr) -> io::Result<TcpStream> {
+        self.register(number, TcpStream::connect(self.rt, address)?)
     }
 }

@@ -1,5 +1,5 @@
 -- What one ask more, or a refusal, says of the asks that wait.
-use Rattle.std.proofs.Common.{◌≡◌, ◌≢◌, ◌<◌, List, [], ◌∷◌, length, drop, slice_index_or, Option, None, Result, Ok, Err, OnOk, IfErr, sym, ◌∙◌, ap, subst, arith}
+use Rattle.std.proofs.Common.{◌≡◌, ◌≢◌, List, ◌∷◌, map, Option, None, Result, Ok, Err, OnOk, IfErr, sym, ◌∙◌, ap, subst}
 use Rattle.amqp_model.specs.End.Asks.{Ask, Refusal, refusal}
 use Rattle.amqp_model.specs.Stream.Endpoint.{Endpoint}
 use Rattle.amqp_core.specs.Faults.Numbers.{refusal_view}
@@ -7,11 +7,6 @@ use Rattle.amqp_core.specs.Config.Settings.{role_for}
 use Rattle.amqp_core.specs.declared.faults.AskFault.{AskFault}
 use Rattle.amqp_core.specs.declared.settings.Settings.{Settings}
 use Rattle.example_proxy.specs.Advancing.{Standing, Accepts, Advances, none_sent, sends_next, HasToWait, Rests}
-
--- the element at place 0 is the first
-pub first_is : {A : Type 0} (xs : List A) (x : A) → 0 < length xs → x ≡ slice_index_or xs 0 x → xs ≡ x ∷ drop 1 xs
-first_is [] x some e = absurd (omega arith)
-first_is (y ∷ ys) x some e = ap (λ z. z ∷ ys) (sym e)
 
 -- one ask more is accepted
 pub sends_one : (old before : Standing) (ask : Ask) (rest : List Ask) (settings : Settings) (endpoint : Endpoint)
@@ -21,12 +16,17 @@ sends_one old before ask rest settings endpoint advances first set accepted =
     subst (λ (s : Settings). Advances old (record { settings = s; waiting = rest; endpoint = endpoint })) (sym set)
     (sends_next before ask rest endpoint advances first accepted)
 
--- an end that is set up as before and has not changed
-pub same_standing : (before : Standing) (settings : Settings) (endpoint : Endpoint)
-    → settings ≡ before.settings → endpoint ≡ before.endpoint
-    → before ≡ record { settings = settings; waiting = before.waiting; endpoint = endpoint }
-same_standing before settings endpoint set e =
-    λ i. record { settings = sym set i; waiting = before.waiting; endpoint = sym e i }
+-- an end that is set up as before and has not changed, and the same asks wait
+pub same_standing : (before : Standing) (settings : Settings) (waiting : List Ask) (endpoint : Endpoint)
+    → settings ≡ before.settings → before.waiting ≡ waiting → endpoint ≡ before.endpoint
+    → before ≡ record { settings = settings; waiting = waiting; endpoint = endpoint }
+same_standing before settings waiting endpoint set same e =
+    λ i. record { settings = sym set i; waiting = same i; endpoint = sym e i }
+
+-- the oldest ask is put back as it was
+pub put_back : {A : Type 0} (view : A → Ask) (old rest : List A) (first again : A)
+    → old ≡ first ∷ rest → view again ≡ view first → map view old ≡ map view (again ∷ rest)
+put_back view old rest first again is same = ap (map view) is ∙ ap (λ ask. ask ∷ map view rest) (sym same)
 
 -- the oldest ask is refused
 pub rests_first : (standing : Standing) (ask : Ask) (rest : List Ask) → standing.waiting ≡ ask ∷ rest

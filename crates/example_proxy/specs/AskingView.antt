@@ -4,6 +4,8 @@ use Rattle.amqp_model.specs.End.Asks.{Ask, CloseChannel, Close}
 use Rattle.amqp_model.specs.End.Closes.{Cause, cause_of, no_cause}
 use Rattle.amqp_model.specs.Wire.Methods.{MethodKind}
 use Rattle.amqp_core.specs.Asks.View.{ask_view}
+use Rattle.example_loop.specs.Gathering.{sent_on}
+use Rattle.example_proxy.specs.declared.asking.Asking.TheVariants as asking
 use Rattle.example_proxy.specs.declared.asking.Asking.{Asking}
 
 -- a method of this kind is the cause, if one is
@@ -18,7 +20,12 @@ about_kind about (Close code text cause) = Close code text (cause_by about)
 about_kind about ask = ask
 
 abbrev pub asking_view : Asking → Ask
-asking_view asking = about_kind asking.about (ask_view asking.ask)
+asking_view (asking.Plain ask about) = about_kind about (ask_view ask)
+asking_view (asking.Content channel content) = sent_on channel content
+
+abbrev pub ask_there : Option Asking → Option Ask
+ask_there (Some ask) = Some (asking_view ask)
+ask_there None = None
 
 abbrev pub closes : Ask → Bool
 closes (CloseChannel channel code text cause) = true

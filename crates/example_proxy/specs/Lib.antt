@@ -2,4 +2,3 @@ pub mod Advancing
 pub mod AskingView
 pub mod ChannelView
 pub mod Passing
-pub mod PassingView

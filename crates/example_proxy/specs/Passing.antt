@@ -1,39 +1,19 @@
 -- What an event of one side asks of the other, where the event's channel has another number.
-use Rattle.std.specs.Prelude.{Bool, true, false, ℕ, List, [], ◌++◌, Option, Some, None, codes, replicate}
+use Rattle.std.specs.Prelude.{ℕ, Option, Some, None, codes}
 use Rattle.amqp_model.specs.End.Asks.{Ask, Send, Flow, CloseChannel, Close, Blocked, Unblocked}
 use Rattle.amqp_model.specs.End.Closes.{no_cause}
 use Rattle.amqp_model.specs.End.Events as events
 use Rattle.amqp_model.specs.End.Events.{Plain, Whole}
 use Rattle.amqp_model.specs.Lent.Alike.{LentEvent, WithoutContent, Begins, Heads, Part, Other}
 use Rattle.amqp_model.specs.Wire.Contents.{Content}
-use Rattle.amqp_model.specs.Wire.Methods.{Method, MethodKind, Properties}
+use Rattle.amqp_model.specs.Wire.Methods.{Method, MethodKind}
+use Rattle.example_loop.specs.Gathering.{begun, left, whole_of, with_part, with_properties}
 use Rattle.example_proxy.specs.AskingView.{cause_by}
 
--- the content that a method begins: nothing but the method is there
-abbrev pub begun : Method → Option Content
-begun method = Some (record { method = method; properties = replicate 14 None; body = [] })
-
--- its properties are there
-abbrev pub with_properties : Properties → Option Content → Option Content
-with_properties properties (Some content) =
-    Some (record { method = content.method; properties = properties; body = content.body })
-with_properties properties None = None
-
--- one more part of its body is there
-abbrev pub with_part : List ℕ → Option Content → Option Content
-with_part octets (Some content) =
-    Some (record { method = content.method; properties = content.properties; body = content.body ++ octets })
-with_part octets None = None
-
--- once it is whole it is sent on the partner
-abbrev pub sent : (partner : ℕ) (whole : Bool) → Option Content → Option Ask
-sent partner true (Some content) = Some (Send partner (Whole content))
-sent partner whole content = None
-
--- and is no longer coming
-abbrev pub left : (whole : Bool) → Option Content → Option Content
-left true content = None
-left false content = content
+-- a content that is whole is sent on the partner
+abbrev pub sent : (partner : ℕ) → Option Content → Option Ask
+sent partner (Some content) = Some (Send partner (Whole content))
+sent partner None = None
 
 -- the content that is coming on a channel, after an event of the channel
 abbrev pub after : Option Content → LentEvent → Option Content
@@ -50,8 +30,9 @@ method_alone partner method = Some (Send partner (Plain method))
 -- a content was refused is closed too.
 abbrev pub asked : (partner : ℕ) (about : Option MethodKind) → Option Content → LentEvent → Option Ask
 asked partner about content (WithoutContent number method) = method_alone partner method
-asked partner about content (Heads number size properties whole) = sent partner whole (with_properties properties content)
-asked partner about content (Part number octets whole) = sent partner whole (with_part octets content)
+asked partner about content (Heads number size properties whole) =
+    sent partner (whole_of whole (with_properties properties content))
+asked partner about content (Part number octets whole) = sent partner (whole_of whole (with_part octets content))
 asked partner about content (Other (events.Flow number active)) = Some (Flow partner active)
 asked partner about content (Other (events.ChannelClosed number (Some reason))) =
     Some (CloseChannel partner reason.code reason.text (cause_by about))

@@ -1,12 +1,12 @@
 //! A channel of one side, and what waits to be asked on it.
-ghost use Rattle.std.specs.Prelude.{◌≡◌, ◌≢◌, ◌+◌, ◌++◌, ◌∷◌, [], Some, None, drop, length, true, false, IfOk, OnOk};
+ghost use Rattle.std.specs.Prelude.{◌≡◌, ◌≢◌, ◌+◌, ◌++◌, ◌∷◌, [], Some, None, length, true, false, IfOk, OnOk};
 ghost use Rattle.amqp_core.specs.Faults.Numbers.{refusal_view};
 ghost use Rattle.example_proxy.specs.Advancing.{Advances, Rests, partner_after};
 ghost use Rattle.example_proxy.specs.AskingView.{asking_view};
 
 use crate::asking::Asking;
-use crate::content::Coming;
 use amqp_core::{AskFault, Role, StreamEnd};
+use example_loop::Coming;
 use std::alloc::{AllocError, Global};
 use std::collections::VecDeque;
 
@@ -17,9 +17,8 @@ pub struct Channel {
     pub partner: Option<u16>,
     /// the content that is coming on it
     pub coming: Coming,
-    /// what its end is still to be asked, the oldest first: a request after one without a reply, a content while the
-    /// channel is paused, anything before it is open
-    waiting: VecDeque<Asking>,
+    /// what its end is still to be asked, the oldest first: it isn't open yet, is paused, or owes a reply
+    pub waiting: VecDeque<Asking>,
 }
 
 impl Channel {
@@ -31,7 +30,7 @@ impl Channel {
     {
         Channel {
             partner: Some(partner),
-            coming: None,
+            coming: Coming::new(),
             waiting: VecDeque::new(alloc),
         }
     }
@@ -49,14 +48,15 @@ impl Channel {
         Ok(())
     }
 
-    /// The oldest that waits.
-    pub fn first(&self) -> Option<&Asking> {
-        self.waiting.front()
-    }
-
-    /// About how many octets wait.
+    /// About how many octets wait: bodies, and 256 for what else an ask has.
     pub fn octets(&self) -> usize {
-        self.waiting.iter().fold(0, |sum: usize, asking| sum.saturating_add(asking.octets()))
+        let mut octets = self.waiting.len().saturating_mul(256);
+        for asking in &self.waiting {
+            if let Asking::Content(_, content) = asking {
+                octets = octets.saturating_add(content.octets());
+            }
+        }
+        octets
     }
 
     /// Asks what waits, in order, until the end refuses an ask for now or none is left.
@@ -75,16 +75,17 @@ impl Channel {
             ≡ length (waiting_in self.old)) }
         ensures rests { IfOk result (λ went. went ≡ false → Rests (standing self.new end.new)) }
     {
-        let Some(next) = self.waiting.front() else {
+        let Some(mut next) = self.waiting.pop_front() else {
             return Ok(false);
         };
-        match next.put(end) {
-            Ok(()) => {
-                drop_first(&mut self.waiting);
-                Ok(true)
-            }
-            Err(fault) if may_go_later(fault) => Ok(false),
-            Err(fault) => Err(fault),
+        let Err(fault) = next.put(end) else {
+            return Ok(true);
+        };
+        self.waiting.push_front_reserved(next);
+        if may_go_later(fault) {
+            Ok(false)
+        } else {
+            Err(fault)
         }
     }
 }
@@ -98,10 +99,4 @@ fn may_go_later(fault: AskFault) -> bool
         AskFault::NotOpen | AskFault::NotRunning => true,
         _ => false,
     }
-}
-
-fn drop_first(asks: &mut VecDeque<Asking>)
-    ensures { asks.new.items ≡ drop 1 asks.old.items }
-{
-    let _ = asks.pop_front();
 }

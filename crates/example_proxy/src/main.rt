@@ -3,23 +3,26 @@
 
 mod asking;
 mod channel;
-mod content;
-mod hello;
 mod peer;
-mod relay;
-mod server;
 
-use crate::server::Server;
-use mio::Poll;
+use crate::peer::{Done, Peer};
+use amqp_core::{Client, Phase, Server};
+use example_loop::{Connect, Link, Program, client_end, serve, server_end, word_after};
+use mio::event::Event;
+use mio::net::TcpStream;
+use std::alloc::Global;
 use std::collections::BTreeMap;
 use std::env;
-use std::net::TcpListener;
+use std::net::SocketAddr;
 use std::process::ExitCode;
 
 const HELP: &str = "\
 Usage: example_proxy LISTEN BROKER [--log] [--user USER] [--password PASSWORD]
 
 Takes clients of AMQP 0-9-1 at the address LISTEN, as 127.0.0.1:5670, and connects to the broker at BROKER for each.";
+
+/// What clients and brokers look for before they use it.
+const ABILITIES: &str = "publisher_confirms basic.nack authentication_failure_close";
 
 fn main(rt: HostRuntime) -> anyhow::Result<ExitCode> {
     let alloc = rt.alloc();
@@ -32,27 +35,102 @@ fn main(rt: HostRuntime) -> anyhow::Result<ExitCode> {
         eprintln!(rt; "{HELP}")?;
         return Ok(ExitCode::from(2));
     }
-    let (user, password) = (user.unwrap_or("guest"), password.unwrap_or("guest"));
-    let login = format!(in alloc; "\0{user}\0{password}")?;
-    let listener = TcpListener::bind(&rt, words[1].as_str())?;
-    listener.set_nonblocking(true)?;
-    println!(rt; "listening {}", listener.local_addr()?)?;
-    let mut server = Server {
+    let mut relays = Relays {
         alloc,
-        poll: Poll::new(&rt)?,
-        listener: mio::net::TcpListener::from_std(listener),
         broker: words[2].as_str().parse()?,
-        login,
+        user: user.unwrap_or("guest"),
+        password: password.unwrap_or("guest"),
         log,
         relays: BTreeMap::new(alloc),
-        last: 0,
     };
-    server.run(&rt)?;
+    serve(&rt, alloc, words[1].as_str(), &mut relays)?;
     Ok(ExitCode::SUCCESS)
 }
 
-/// The word that stands after another, if that is there.
-fn word_after<'a>(words: &'a [String], name: &str) -> Option<&'a str> {
-    let place = words.iter().position(|word| word.as_str() == name)?;
-    Some(words.get(place + 1)?.as_str())
+/// A client, and the connection to the broker that was made for it.
+#[derive(Drop)]
+struct Relay {
+    client: Peer<Server>,
+    broker: Peer<Client>,
+}
+
+impl Relay {
+    fn has_work(&self) -> bool {
+        self.client.link.has_work() || self.broker.link.has_work()
+    }
+
+    /// Reads each side once, passes on what came, and writes what the sockets take. What can't be passed on ends both.
+    fn turn(&mut self, rt: &impl Print, ticks: bool, room: &mut [u8]) {
+        if self.pass_on(rt, room).is_err() {
+            self.client.fail();
+            self.broker.fail();
+        }
+        let (client, broker) = (&mut self.client, &mut self.broker);
+        if ticks {
+            client.link.tick();
+            broker.link.tick();
+        }
+        client.link.write();
+        broker.link.write();
+        client.link.is_held = broker.is_full();
+        broker.link.is_held = client.is_full();
+    }
+
+    /// What the client said before it left is told to the broker before that is closed.
+    fn pass_on(&mut self, rt: &impl Print, room: &mut [u8]) -> Done {
+        let (client, broker) = (&mut self.client, &mut self.broker);
+        client.pull(rt, broker, room)?;
+        broker.pull(rt, client, room)?;
+        client.answer(broker.link.end.phase() == Phase::Running);
+        client.advance(true)?;
+        broker.advance(false)
+    }
+}
+
+/// The relays, by the numbers of their clients, which both their sockets have.
+#[derive(Drop)]
+struct Relays<'a> {
+    alloc: Global,
+    broker: SocketAddr,
+    /// Who logs in there.
+    user: &'a str,
+    password: &'a str,
+    log: bool,
+    relays: BTreeMap<usize, Relay>,
+}
+
+impl Program for Relays<'_> {
+    fn has_work(&self) -> bool {
+        self.relays.values().any(Relay::has_work)
+    }
+
+    /// A client is let in once the broker has let in the proxy.
+    fn add(&mut self, to: &impl Connect, number: usize, stream: TcpStream) -> anyhow::Result<()> {
+        let alloc = self.alloc;
+        let client = server_end(alloc, "example_proxy", ABILITIES)?;
+        let broker = client_end(alloc, "example_proxy", ABILITIES, self.user, self.password)?;
+        let client = Peer::new(alloc, Link::new(stream, client.into_stream()), self.log)?;
+        let broker = Link::new(to.connect(number, self.broker)?, broker.into_stream());
+        let broker = Peer::new(alloc, broker, self.log)?;
+        self.relays.insert(number, Relay { client, broker })?;
+        Ok(())
+    }
+
+    /// A read or a write of the socket that isn't ready moves nothing.
+    fn note(&mut self, number: usize, event: &Event) {
+        if let Some(relay) = self.relays.get_mut(&number) {
+            relay.client.link.note(event);
+            relay.broker.link.note(event);
+        }
+    }
+
+    fn turn(&mut self, rt: &impl Print, ticks: bool, room: &mut [u8]) -> anyhow::Result<()> {
+        for relay in self.relays.values_mut() {
+            if ticks || relay.has_work() {
+                relay.turn(rt, ticks, room);
+            }
+        }
+        self.relays.retain(|_, relay| !relay.client.link.is_done() || !relay.broker.link.is_done());
+        Ok(())
+    }
 }

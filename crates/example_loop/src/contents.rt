@@ -1,0 +1,124 @@
+//! Contents in parts: gathered as they come, and sent once they are whole, since an end sends none in parts.
+ghost use Rattle.std.specs.Prelude.{◌≡◌, None, IfOk, OnErr, OnOk};
+ghost use Rattle.amqp_method.specs.HeaderRefView.{lent_header};
+ghost use Rattle.amqp_method.specs.MethodRefView.{lent_call};
+ghost use Rattle.amqp_core.specs.Stream.Asks.{StreamAsked};
+ghost use Rattle.example_loop.specs.Gathering.{begun, content_there, gathered, left, sent_on, whole_of, with_part, with_properties};
+
+use amqp_core::{AskFault, Chunks, Role, StreamEnd};
+use amqp_method::{Carrier, Header, HeaderRef, MethodRef};
+use std::alloc::Global;
+
+/// A content that is whole. Each part of its body is let go as it is sent, so that no body is in memory twice.
+#[derive(Drop)]
+pub struct Content {
+    method: Carrier,
+    header: Header,
+    body: Chunks,
+}
+
+impl Content {
+    /// About how many octets it takes.
+    pub fn octets(&self) -> usize {
+        self.body.len()
+    }
+
+    /// Sends it on a channel. A content that is refused stays as it was.
+    pub fn send<R: Role>(&mut self, end: &mut StreamEnd<R>, channel: u16) -> Result<(), AskFault>
+        ensures asked { StreamAsked end.old (sent_on channel self.old) result end.new }
+        ensures kept { OnErr result (sent_on channel self.new ≡ sent_on channel self.old) }
+    {
+        let (method, properties) = (self.method.method(), &self.header.properties);
+        end.send_chunks(channel, method, properties, &mut self.body)
+    }
+}
+
+/// The content that is coming on a channel, if one is.
+#[derive(Drop)]
+pub struct Coming {
+    content: Option<Content>,
+}
+
+impl Coming {
+    /// None is coming.
+    pub fn new() -> Coming
+        ensures { gathered result ≡ None }
+    {
+        Coming { content: None }
+    }
+
+    /// A method begins a content.
+    pub fn begin(&mut self, alloc: Global, method: MethodRef<'_>) -> anyhow::Result<()>
+        ensures { OnOk result (gathered self.new ≡ begun (lent_call method.entry)) }
+    {
+        if !method.has_content() {
+            return Err(AskFault::NotSendable.into());
+        }
+        self.content = Some(Content {
+            method: Carrier::new(method.to_owned(alloc)?),
+            header: Header::default(),
+            body: Chunks::new(alloc),
+        });
+        Ok(())
+    }
+
+    /// The header of the content is there. It answers the content if that is whole.
+    pub fn head(
+        &mut self,
+        alloc: Global,
+        header: HeaderRef<'_>,
+        whole: bool,
+    ) -> anyhow::Result<Option<Content>>
+        ensures whole { IfOk result (λ content. content_there content
+            ≡ whole_of whole (with_properties (lent_header header.entry).properties (gathered self.old))) }
+        ensures left { OnOk result (gathered self.new
+            ≡ left whole (with_properties (lent_header header.entry).properties (gathered self.old))) }
+    {
+        self.read_header(alloc, header)?;
+        Ok(self.finish(whole))
+    }
+
+    /// One more part of its body is there, likewise.
+    pub fn add(
+        &mut self,
+        alloc: Global,
+        octets: &[u8],
+        whole: bool,
+    ) -> anyhow::Result<Option<Content>>
+        ensures whole { IfOk result (λ content. content_there content
+            ≡ whole_of whole (with_part octets.now (gathered self.old))) }
+        ensures left { OnOk result (gathered self.new ≡ left whole (with_part octets.now (gathered self.old))) }
+    {
+        self.push(Vec::from_slice(alloc, octets)?)?;
+        Ok(self.finish(whole))
+    }
+
+    fn read_header(&mut self, alloc: Global, header: HeaderRef<'_>) -> anyhow::Result<()>
+        ensures { OnOk result (gathered self.new ≡ with_properties (lent_header header.entry).properties
+            (gathered self.old)) }
+    {
+        if let Some(content) = &mut self.content {
+            header.read_into(alloc, &mut content.header)?;
+        }
+        Ok(())
+    }
+
+    fn push(&mut self, part: Vec<u8>) -> anyhow::Result<()>
+        ensures { OnOk result (gathered self.new ≡ with_part part.items (gathered self.old)) }
+    {
+        if let Some(content) = &mut self.content {
+            content.body.push(part)?;
+        }
+        Ok(())
+    }
+
+    fn finish(&mut self, whole: bool) -> Option<Content>
+        ensures whole { content_there result ≡ whole_of whole (gathered self.old) }
+        ensures left { gathered self.new ≡ left whole (gathered self.old) }
+    {
+        if !whole {
+            return None;
+        }
+        self.content.take()
+    }
+}

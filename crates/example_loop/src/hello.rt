@@ -1,0 +1,64 @@
+//! The command line, and what the programs say of themselves in the handshake.
+use amqp_core::{Client, ClientHello, Config, End, Server, ServerHello};
+use amqp_value::{ShortStr, Table, Value};
+use std::alloc::Global;
+
+/// The greatest body of a content that is taken.
+const MAX_BODY: u64 = 134_217_728;
+
+/// The heartbeat that is proposed, in seconds.
+const HEARTBEAT: u16 = 60;
+
+/// The word that stands after another on the command line, if that is there.
+pub fn word_after<'a>(words: &'a [String], name: &str) -> Option<&'a str> {
+    let place = words.iter().position(|word| word.as_str() == name)?;
+    Some(words.get(place + 1)?.as_str())
+}
+
+/// The properties of a program of this name, with what it can do, in words.
+fn properties(alloc: Global, product: &str, abilities: &str) -> anyhow::Result<Table> {
+    let mut capabilities = Table::new(alloc);
+    for ability in abilities.split(' ') {
+        capabilities.push(ShortStr::text(alloc, ability)?, Value::from(true))?;
+    }
+    let mut properties = Table::new(alloc);
+    let product = Value::string(alloc, product)?;
+    properties.push(ShortStr::text(alloc, "product")?, product)?;
+    let capabilities = Value::from(capabilities);
+    properties.push(ShortStr::text(alloc, "capabilities")?, capabilities)?;
+    Ok(properties)
+}
+
+/// A server that looks at each login itself, by PLAIN or AMQPLAIN. It is a program of this name, with these abilities.
+pub fn server_end(alloc: Global, product: &str, abilities: &str) -> anyhow::Result<End<Server>> {
+    let mut config = Config::new(ServerHello {
+        properties: properties(alloc, product, abilities)?,
+        mechanisms: Vec::from_slice(alloc, b"PLAIN AMQPLAIN")?,
+        locales: Vec::from_slice(alloc, b"en_US")?,
+    });
+    config.gated = true;
+    config.max_body = MAX_BODY;
+    config.heartbeat = HEARTBEAT;
+    Ok(End::new(alloc, config)?)
+}
+
+/// A client likewise, which logs in by PLAIN, and goes to the virtual host `/`.
+pub fn client_end(
+    alloc: Global,
+    product: &str,
+    abilities: &str,
+    user: &str,
+    password: &str,
+) -> anyhow::Result<End<Client>> {
+    let response = format!(in alloc; "\0{user}\0{password}")?;
+    let mut config = Config::new(ClientHello {
+        properties: properties(alloc, product, abilities)?,
+        mechanism: ShortStr::text(alloc, "PLAIN")?,
+        response: response.into_bytes(),
+        locale: ShortStr::text(alloc, "en_US")?,
+        virtual_host: ShortStr::text(alloc, "/")?,
+    });
+    config.max_body = MAX_BODY;
+    config.heartbeat = HEARTBEAT;
+    Ok(End::new(alloc, config)?)
+}
