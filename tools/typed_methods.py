@@ -155,8 +155,8 @@ KINDS = {
 }
 # the type of a field that lies in a payload, where it isn't the type that is lent
 IN_PAYLOAD = {"short-string": "&'a [u8]", "table": "TableRef<'a>"}
-# what reads a method that is known to be one without arguments, in place of what asks whether it is
-BARE_READS = {"from_method": "of_method", "from_view": "of_view"}
+# what reads a method of a known kind, in place of what asks for the kind
+KNOWN_READS = {"from_method": "of_method", "from_view": "of_view"}
 # the functions that take an array of so many arguments apart
 COUNTS = {1: "one", 2: "two", 3: "three", 4: "four", 5: "five", 7: "seven", 8: "eight"}
 PLAIN = {"bit", "octet", "short", "long", "long-long"}
@@ -231,12 +231,6 @@ class Method:
 
     def is_bare(self):
         return not self.fields
-
-    def known_read(self, read):
-        """The function that reads a method that is known to be this one, or None if that which asks has to do."""
-        if self.is_bare():
-            return BARE_READS[read]
-        return "of_view" if read == "from_view" and not self.is_plain() else None
 
     def in_payload(self):
         """The struct that is read from a payload."""
@@ -356,10 +350,7 @@ def literal(indent, name, fields, end, head=""):
 
 
 def into_method_of(method):
-    lines = ["    /// The method with these arguments."]
-    lines.append("    pub fn into_method(self, alloc: Global) -> Result<Method, OutOfMemory>")
-    lines.append(clause("", f"IfOk result (λ m. method_view m ≡ {method.snake}_call self)"))
-    lines.append("    {")
+    lines = ["    fn into_method(self, alloc: Global) -> Result<Method, OutOfMemory> {"]
     args = [f"Arg::{field.variant}(self.{field.name})" for field in method.fields]
     lines += call_lines("        ", method.kind, args)
     return lines + ["    }", ""]
@@ -379,93 +370,46 @@ def call_lines(indent, kind, args):
     return lines + [f"{indent}    ],", f"{indent})"]
 
 
-def read_clauses(method, name):
-    """What reading a method gives: of an owned one a `Result`, and of a lent one an `Option`."""
-    return [
-        clause("args", f"IfOk result (λ m. {name}_call m ≡ method_view method)"),
-        clause("when", f"IsOk result ↔ ((method_view method).kind ≡ {method.kind})"),
-        clause("same", "IfErr result (λ m. method_view m ≡ method_view method)"),
-    ]
-
-
-def lent_clauses(method, name):
-    return [
-        clause("args", f"IfSome result (λ m. {name}_call m ≡ method_view method.now)"),
-        clause("when", f"IsSome result ↔ ((method_view method.now).kind ≡ {method.kind})"),
-    ]
-
-
-def from_method_of(method):
-    lines = ["    /// What the method says, or the method as it was if it is another."]
-    lines.append(f"    pub fn from_method(method: Method) -> Result<{method.name}, Method>")
-    lines += read_clauses(method, method.snake)
-    lines.append("    {")
+def of_method_of(method):
+    lines = [f"    fn of_method(method: Method) -> {method.name} {{"]
     if method.is_plain():
-        lines += [
-            f"        match {method.name}::from_ref(&method) {{",
-            f"            Some({method.snake}) => Ok({method.snake}),",
-            "            None => Err(method),",
-            "        }",
-        ]
-        return lines + ["    }", ""]
-    # a `match`, and no `?`: that would call the conversion of errors, and be proved with it
-    lines += [f"        match own_args(method, Kind::{method.kind}) {{", "            Ok(args) => {"]
+        return lines + [f"        {method.name}::of_ref(&method)", "    }", ""]
     count = len(method.fields)
     # no name for each argument: each local of a function is in the proof of each of its steps
-    lines.append(f"                let taken = {COUNTS[count]}(args);")
+    lines.append(f"        let taken = {COUNTS[count]}(own_args(method, Kind::{method.kind}));")
     places = ["taken"] if count == 1 else [f"taken.{place}" for place in range(count)]
     body = [f"{field.name}: {field.helper}({place})" for field, place in zip(method.fields, places)]
-    lines += literal("                ", method.name, body, ")", "Ok(")
-    lines += ["            }", "            Err(method) => Err(method),", "        }"]
+    lines += literal("        ", method.name, body, "")
     return lines + ["    }", ""]
-
-
-def from_ref_of(method):
-    """Of a struct without references: read from a lent method."""
-    lines = ["    /// What the method says, if it is this one."]
-    lines.append(f"    pub fn from_ref(method: &Method) -> Option<{method.name}>")
-    lines += lent_clauses(method, method.snake)
-    lines.append("    {")
-    return lines + lent_body(method, method.name) + ["    }", ""]
-
-
-def lent_test(method, test):
-    return [f"        if !{test}(method, Kind::{method.kind}) {{", "            return None;", "        }"]
 
 
 def lent_fields(method, suffix):
     return [f"{field.name}: {field.helper}{suffix}(method, {place})" for place, field in enumerate(method.fields)]
 
 
-def lent_body(method, name, test="is_kind", suffix="_at"):
-    return lent_test(method, test) + literal("        ", name, lent_fields(method, suffix), ")", "Some(")
-
-
-def from_view_of(method, name, call, lifetime):
-    """Read from a method that lies in its payload."""
-    lines = ["    /// What the method says, if it is this one."]
-    lines.append(f"    pub fn from_view(method: MethodRef<{lifetime}>) -> Option<{name}>")
-    lines += view_clauses(method, call) + ["    {"]
-    if method.is_plain():
-        return lines + lent_body(method, name, "is_view_of", "_in") + ["    }"]
-    short = name.split("<")[0]
-    lines += lent_test(method, "is_view_of") + [f"        Some({short}::of_view(method))", "    }", ""]
-    return lines + of_view_of(method, name, call, lifetime)
-
-
-def of_view_of(method, name, call, lifetime):
-    """Read from a method that is known to be this one."""
-    lines = ["    /// What a method of this kind says.", f"    fn of_view(method: MethodRef<{lifetime}>) -> {name}"]
-    lines.append(f"        requires {{ Fits (lent_call method) × ((lent_call method).kind ≡ {method.kind}) }}")
-    lines += [clause("", f"{call}_call result ≡ lent_call method.entry"), "    {"]
-    return lines + literal("        ", name.split("<")[0], lent_fields(method, "_in"), "") + ["    }"]
-
-
-def view_clauses(method, name):
-    return [
-        clause("args", f"IfSome result (λ m. {name}_call m ≡ lent_call method.entry)"),
-        clause("when", f"IsSome result ↔ ((lent_call method.entry).kind ≡ {method.kind})"),
+def owned_impl_of(method):
+    lines = [
+        f"impl Typed for {method.name} {{",
+        f"    ghost KIND = {{ {method.kind} }};",
+        "",
+        f"    ghost says = {{ {method.snake}_call }};",
+        "",
+        f"    const KIND: Kind = Kind::{method.kind};",
+        "",
     ]
+    return lines + (into_method_of(method) + of_method_of(method))[:-1] + ["}", ""]
+
+
+def lent_impl_of(method, name, short, said):
+    lines = [f"impl<'a> TypedRef<'a> for {name} {{", f"    type Of = {method.name};", "", f"    ghost lends = {{ {said}_call }};", ""]
+    lines.append(f"    fn of_ref(method: &'a Method) -> {name} {{")
+    return lines + literal("        ", short, lent_fields(method, "_at"), "") + ["    }", "}", ""]
+
+
+def view_impl_of(method, name, short, said):
+    lines = [f"impl<'a> TypedView<'a> for {name} {{", f"    type Of = {method.name};", "", f"    ghost shows = {{ {said}_call }};", ""]
+    lines.append(f"    fn of_view(method: MethodRef<'a>) -> {name} {{")
+    return lines + literal("        ", short, lent_fields(method, "_in"), "") + ["    }", "}", ""]
 
 
 def message_of(method):
@@ -491,26 +435,23 @@ def message_of(method):
 
 def impl_of(method):
     lines = [f"impl {method.name} {{"]
-    parts = new_of(method) + into_method_of(method) + message_of(method) + from_method_of(method)
+    lines += (new_of(method) + message_of(method))[:-1] + ["}", ""]
+    lines += owned_impl_of(method)
     if method.is_plain():
-        parts += from_ref_of(method) + from_view_of(method, method.name, method.snake, "'_") + [""]
-    return lines + parts[:-1] + ["}", ""]
+        lines += lent_impl_of(method, method.name, method.name, method.snake)
+        lines += view_impl_of(method, method.name, method.name, method.snake)
+    return lines
 
 
 def ref_of(method):
     if method.is_plain():
         return []
+    name = method.name + "Ref"
     lines = [f"/// [`{method.name}`], lent by a method."]
     lines.append("#[derive(Clone, Copy)]")
-    lines.append(f"pub struct {method.name}Ref<'a> {{")
+    lines.append(f"pub struct {name}<'a> {{")
     lines += [f"    pub {field.name}: {field.lent}," for field in method.fields]
-    lines += ["}", "", f"impl<'a> {method.name}Ref<'a> {{"]
-    lines.append("    /// What the method says, if it is this one.")
-    lines.append(f"    pub fn from_method(method: &'a Method) -> Option<{method.name}Ref<'a>>")
-    lines += lent_clauses(method, method.snake + "_ref")
-    lines.append("    {")
-    lines += lent_body(method, method.name + "Ref")
-    return lines + ["    }", "}", ""]
+    return lines + ["}", ""] + lent_impl_of(method, name + "<'a>", name, method.snake + "_ref")
 
 
 def view_of(method):
@@ -520,8 +461,7 @@ def view_of(method):
     lines = [f"/// [`{method.name}`], as it lies in its payload."]
     lines += ["#[derive(Clone, Copy)]", f"pub struct {name}<'a> {{"]
     lines += [f"    pub {field.name}: {field.in_payload}," for field in method.fields]
-    lines += ["}", "", f"impl<'a> {name}<'a> {{"]
-    return lines + from_view_of(method, f"{name}<'a>", method.snake + "_view", "'a") + ["}", ""]
+    return lines + ["}", ""] + view_impl_of(method, name + "<'a>", name, method.snake + "_view")
 
 
 def uses(text, names):
@@ -540,13 +480,10 @@ def class_file(name, all_methods):
     items += any_of_class(name, of_class)
     code = "\n".join(items[:-1])
     clauses = "\n".join(line for line in items if "ensures" in line or line.startswith("            "))
-    prelude = ["◌≡◌", "◌↔◌"]
+    prelude = ["◌≡◌"]
     own = [method for method in of_class if not method.is_bare()]
-    if not own:
-        prelude.remove("◌↔◌")
-    for word in ("IfOk", "IfErr", "IfSome", "IsOk", "IsOkAnd", "IsSome", "false"):
-        if word != "false" and re.search(rf"\b{word}\b", clauses):
-            prelude.append(word)
+    if "IfOk" in clauses:
+        prelude.append("IfOk")
     if "bit false" in clauses:
         prelude.append("false")
     if "∷" in clauses:
@@ -560,7 +497,7 @@ def class_file(name, all_methods):
         lines.append("ghost use Rattle.amqp_value.specs.Values.{no_pairs};")
     arguments = [row[4] for row in KINDS.values() if re.search(rf"[(∷] ?{row[4]}\b", clauses)]
     if arguments:
-        words = ["call"] + (["Fits"] if "Fits" in code else []) + arguments
+        words = ["call"] + arguments
         lines.append(f"ghost use Rattle.amqp_method.specs.Arguments.{{{', '.join(words)}}};")
     if "properties_view" in clauses:
         lines.append("ghost use Rattle.amqp_method.specs.HeaderView.{properties_view};")
@@ -578,10 +515,10 @@ def class_file(name, all_methods):
     calls += ["any_call"] if is_plain(of_class) else ["any_call", "any_view_call"]
     lines.append(f"ghost use Rattle.amqp_typed.specs.{camel(name)}.{{{', '.join(calls)}}};")
     lines.append("")
-    helpers = sorted(word for word in [row[3] for row in KINDS.values()] + [row[3] + "_at" for row in KINDS.values()] + list(COUNTS.values()) + ["bare_method", "is_kind", "method_of", "own_args"] if re.search(rf"(?<![\w.:]){word}(\(|::<)", code))
+    helpers = sorted(word for word in [row[3] for row in KINDS.values()] + [row[3] + "_at" for row in KINDS.values()] + list(COUNTS.values()) + ["method_of", "own_args"] if re.search(rf"(?<![\w.:]){word}(\(|::<)", code))
     if helpers:
         lines += use_lines("crate::args", helpers)
-    views = [row[3] + "_in" for row in KINDS.values()] + ["is_view_of", "kind_in"]
+    views = [row[3] + "_in" for row in KINDS.values()] + ["kind_in"]
     in_payload = sorted(word for word in views if re.search(rf"(?<![\w.:]){word}\(", code))
     bare = [method.kind for method in of_class if method.is_bare()]
     if bare:
@@ -589,6 +526,8 @@ def class_file(name, all_methods):
         lines += use_lines("crate::bare_kinds", sorted(bare))
     if any(method.content for method in of_class):
         lines.append("use crate::contents::content_of;")
+    traits = ["Typed", "TypedRef", "TypedView"] if own else ["Typed", "TypedView"]
+    lines += use_lines("crate::typed", traits)
     if in_payload:
         lines += use_lines("crate::views", in_payload)
     types = ("Arg", "Kind", "Message", "Method", "MethodRef", "OutOfMemory", "Properties")
@@ -670,18 +609,17 @@ def view_of_class(enum, call, lifetime, of_class):
 
 def read_of_class(enum, read, structs):
     """A body that reads the method as the struct of its kind."""
-    asked = asked_kind(read, [method for method, _ in structs])
-    lines = ["    {", f"        match {'kind_in(method)' if asked == 'kind_in' else 'method.kind()'} {{"]
+    asked = "kind_in(method)" if read == "from_view" else "method.kind()"
+    lines = ["    {", f"        match {asked} {{"]
     for method, struct in structs:
-        word = method.known_read(read)
-        known = f"{struct}::{word}(method)" if word else f"{struct}::{read}(method).unwrap()"
+        known = f"{struct}::{KNOWN_READS[read]}(method)"
         lines += arm(f"Kind::{method.kind}", f"{enum}::{method.name}({known})", "            ")
     return lines + ["            _ => unreachable!(),", "        }", "    }"]
 
 
-def asked_kind(read, of_class):
-    """What tells the kind: in a payload, that the arguments fit it as well, where a struct needs that."""
-    return "kind_in" if read == "from_view" and not is_plain(of_class) else "kind"
+def asked_kind(read):
+    """What tells the kind: in a payload, that the arguments fit it as well."""
+    return "kind_in" if read == "from_view" else "kind"
 
 
 def use_lines(path, names):
@@ -797,109 +735,60 @@ def steps(fields, suffix):
     return names
 
 
-def steps_in_ok(fields):
-    """The same within the arm of `Ok`: the second of a helper has the arm's name, and those behind it a number too."""
-    names = {"": "", "-2": "-in-Ok"}
-    return [(helper, names.get(number, f"-in-Ok-{int(number[1:] or 0) - 1}")) for helper, number in steps(fields, "")]
-
-
-def lent_answer(method, struct, function, suffix, test, fit, said):
+def lent_answer(method, struct, function, suffix, kind, fit, said):
     """Of which kind each argument is, and that what is read by place is all that the method says."""
     calls = steps(method.fields, suffix)
-    asked = test.split(".")[0]
-    same = f"(c.{test}.0 c.if-not-{asked}.false)"
     word = said[1:].split(" ")[0]
     lines = [
         "use Rattle.std.proofs.Common.{refl}",
         f"use Rattle.amqp_method.specs.{'MethodView' if word == 'method_view' else 'MethodRefView'}.{{{word}}}",
         f"use Rattle.amqp_method.specs.declared.kinds.Kind.TheVariants.{{{method.kind}}}",
-        f"use Rattle.amqp_typed.proofs.Places.{{at_place, call_{len(method.fields)}, when_yes, when_no}}",
+        f"use Rattle.amqp_typed.proofs.Places.{{at_place, call_{len(method.fields)}}}",
         f"use Rattle.amqp_typed.proofs.{method.class_name}.{struct}.{function}.Goals as goal",
     ]
     for place, (helper, number) in enumerate(calls):
         goal = f"{helper}-requires{number}"
-        lines += ["", f"pub {goal} : goal.{goal}", f"{goal} c = at_place {said} {method.kind} {place} {same} refl"]
+        lines += ["", f"pub {goal} : goal.{goal}", f"{goal} c = at_place {said} {method.kind} {place} {kind} refl"]
     facts = " ".join(f"c.{helper}{number}.ensures" for helper, number in calls)
-    lines += ["", "pub returns-clause-args : goal.returns-clause-args", "returns-clause-args c ="]
-    lines += [f"    call_{len(method.fields)} _ _ {same} {fit} refl", f"    {facts}"]
-    lines += when_answers(asked, test)
+    lines += ["", "pub returns : goal.returns", "returns c ="]
+    lines += [f"    call_{len(method.fields)} _ _ {kind} {fit} refl", f"    {facts}"]
     return "\n".join(lines) + "\n"
 
 
-def ref_answer(method, struct, function):
+def ref_answer(method, struct):
     """Of a method that is lent."""
-    method_said = "(method_view c.args.method.now)"
-    return lent_answer(method, struct, function, "_at", "is_kind.ensures", "c.args.method.now.fit", method_said)
-
-
-def when_answers(asked, test):
-    """What the test decides."""
-    lines = []
-    # found by a search too, which takes longer
-    for goal, lemma, answer in ((f"then-not-{asked}-", "when_no", "true"), ("", "when_yes", "false")):
-        goal = f"returns-{goal}clause-when"
-        lines += ["", f"pub {goal} : goal.{goal}", f"{goal} c = {lemma} c.{test} c.if-not-{asked}.{answer}"]
-    return lines
-
-
-def known_view_answers(method, struct):
-    """Of a method that lies in its payload: of what asks for its kind, and of what reads it."""
-    folder = f"Rattle.amqp_typed.proofs.{method.class_name}.{struct}"
-    kind = "is_view_of.ensures.kind"
-    asking = [
-        "use Rattle.amqp_typed.proofs.Places.{when_yes, when_no}",
-        f"use {folder}.from_view.Goals as goal",
-        "",
-        "pub of_view-requires : goal.of_view-requires",
-        f"of_view-requires c = (c.is_view_of.ensures.fit, c.{kind}.0 c.if-not-is_view_of.false)",
-        "",
-        "pub returns-clause-args : goal.returns-clause-args",
-        "returns-clause-args c = c.of_view.ensures",
-    ] + when_answers("is_view_of", kind)
-    calls = steps(method.fields, "_in")
-    reading = [
-        "use Rattle.std.proofs.Common.{refl}",
-        "use Rattle.amqp_method.specs.MethodRefView.{lent_call}",
-        f"use Rattle.amqp_method.specs.declared.kinds.Kind.TheVariants.{{{method.kind}}}",
-        f"use Rattle.amqp_typed.proofs.Places.{{at_place, call_{len(method.fields)}}}",
-        f"use {folder}.of_view.Goals as goal",
-    ]
-    for place, (helper, number) in enumerate(calls):
-        goal = f"{helper}-requires{number}"
-        term = f"at_place (lent_call c.args.method) {method.kind} {place} c.requires.1 refl"
-        reading += ["", f"pub {goal} : goal.{goal}", f"{goal} c = {term}"]
-    facts = " ".join(f"c.{helper}{number}.ensures" for helper, number in calls)
-    reading += ["", "pub returns : goal.returns", "returns c ="]
-    reading += [f"    call_{len(method.fields)} _ _ c.requires.1 c.requires.0 refl", f"    {facts}"]
-    return "\n".join(asking) + "\n", "\n".join(reading) + "\n"
+    said = "(method_view c.args.method.now)"
+    return lent_answer(method, struct, "of_ref", "_at", "c.requires", "c.args.method.now.fit", said)
 
 
 def view_answer(method, struct):
     """Of a method that lies in its payload."""
-    kind, fit = "is_view_of.ensures.kind", "c.is_view_of.ensures.fit"
-    return lent_answer(method, struct, "from_view", "_in", kind, fit, "(lent_call c.args.method)")
+    return lent_answer(method, struct, "of_view", "_in", "c.requires.1", "c.requires.0", "(lent_call c.args.method)")
 
 
 def owned_answer(method):
     """Of which kind each argument is, and that what is taken apart is all that the method says."""
     count = len(method.fields)
     taken = f"c.{COUNTS[count]}-taken.ensures"
-    names = steps_in_ok(method.fields)
-    lines = []
-    if count == 1:
-        lines.append(f"use Rattle.amqp_typed.proofs.Places.{{kind_1, kinds_in, made_1}}")
-    else:
-        lines.append(f"use Rattle.amqp_typed.proofs.Places.{{kinds_{count}, kinds_in, made_{count}}}")
-    lines.append(f"use Rattle.amqp_method.specs.declared.kinds.Kind.TheVariants.{{{method.kind}}}")
-    lines.append(f"use Rattle.amqp_typed.proofs.{method.class_name}.{method.name}.from_method.Goals as goal")
-    kinds = f"kinds_in {method.kind} c.in-Ok.args _ c.in-Ok.ensures.fit {taken}"
+    names = steps(method.fields, "")
+    lemmas = f"kind_1, kinds_in, made_1" if count == 1 else f"kinds_{count}, kinds_in, made_{count}"
+    lines = [
+        "use Rattle.std.proofs.Common.{refl, arith}",
+        f"use Rattle.amqp_typed.proofs.Places.{{{lemmas}}}",
+        f"use Rattle.amqp_method.specs.declared.kinds.Kind.TheVariants.{{{method.kind}}}",
+        f"use Rattle.amqp_typed.proofs.{method.class_name}.{method.name}Typed.of_method.Goals as goal",
+        "",
+        "pub own_args-requires : goal.own_args-requires",
+        "own_args-requires c = (omega arith, (c.requires, refl))",
+    ]
+    kinds = f"kinds_in {method.kind} c.own_args.result _ c.own_args.ensures.fit {taken}"
     for place, (helper, number) in enumerate(names):
         goal = f"{helper}-requires{number}"
         term = f"kind_1 ({kinds})" if count == 1 else f"(kinds_{count} ({kinds})).{place}"
         lines += ["", f"pub {goal} : goal.{goal}", f"{goal} c = {term}"]
     facts = " ".join(f"c.{helper}{number}.ensures" for helper, number in names)
-    lines += ["", "pub returns-in-Ok-clause-args : goal.returns-in-Ok-clause-args", "returns-in-Ok-clause-args c ="]
-    lines.append(f"    made_{count} _ {method.kind} c.in-Ok.args c.in-Ok.ensures.args {taken}")
+    lines += ["", "pub returns : goal.returns", "returns c ="]
+    lines.append(f"    made_{count} _ {method.kind} c.own_args.result c.own_args.ensures.args {taken}")
     lines.append(f"    {facts}")
     return "\n".join(lines) + "\n"
 
@@ -908,7 +797,7 @@ def made_answer(method):
     """That the arguments fit their kind, and that they are those of the struct: both by computing alone."""
     lines = [
         "use Rattle.std.proofs.Common.{refl, arith}",
-        f"use Rattle.amqp_typed.proofs.{method.class_name}.{method.name}.into_method.Goals as goal",
+        f"use Rattle.amqp_typed.proofs.{method.class_name}.{method.name}Typed.into_method.Goals as goal",
         "",
         "pub method_of-requires : goal.method_of-requires",
         "method_of-requires c = (omega arith, refl)",
@@ -925,28 +814,15 @@ def any_answer(name, enum, read, of_class):
         "use Rattle.std.proofs.Common.{sym, ◌∙◌}",
         f"use Rattle.amqp_typed.proofs.{name}.{enum}.{read}.Goals as goal",
     ]
-    asked = asked_kind(read, of_class)
+    asked, word = asked_kind(read), KNOWN_READS[read]
     kind = "kind_in.ensures.kind" if asked == "kind_in" else "kind.ensures"
-    seen = set()
-    for method in of_class:
-        known = method.known_read(read)
-        word = known or read
-        arm, step = f"in-{method.kind}", f"-in-{method.kind}" if word in seen else ""
-        seen.add(word)
+    for place, method in enumerate(of_class):
+        arm = f"in-{method.kind}"
+        step = f"-{arm}" if place else ""
         is_kind = f"sym c.{kind} ∙ c.{arm}.is"
-        if known:
-            goal = f"{word}-requires{step}"
-            needed = is_kind if method.is_bare() else f"(c.kind_in.ensures.fit, {is_kind})"
-            lines += ["", f"pub {goal} : goal.{goal}", f"{goal} c = {needed}"]
-            goal = f"returns-{arm}"
-            lines += ["", f"pub {goal} : goal.{goal}", f"{goal} c = c.{word}{step}.ensures"]
-            continue
-        goal = f"unwrap-requires{step}"
-        lines += ["", f"pub {goal} : goal.{goal}"]
-        lines.append(f"{goal} c = c.{read}{step}.ensures.when.1 ({is_kind})")
-        goal = f"returns-{arm}"
-        lines += ["", f"pub {goal} : goal.{goal}"]
-        lines.append(f"{goal} c = rw c.unwrap{step}.ensures at c.{read}{step}.ensures.args")
+        needed = f"(c.kind_in.ensures.fit, {is_kind})" if asked == "kind_in" else is_kind
+        lines += ["", f"pub {word}-requires{step} : goal.{word}-requires{step}", f"{word}-requires{step} c = {needed}"]
+        lines += ["", f"pub returns-{arm} : goal.returns-{arm}", f"returns-{arm} c = c.{word}{step}.ensures"]
     return "\n".join(lines) + "\n"
 
 
@@ -979,20 +855,17 @@ def answers(all_methods):
         if not method.fields:
             continue
         folder = CRATE / "proofs" / method.class_name
-        found[folder / method.name / "into_method" / "Answers.antt"] = made_answer(method)
+        found[folder / (method.name + "Typed") / "into_method" / "Answers.antt"] = made_answer(method)
         if method.content:
             found[folder / method.name / "message" / "Answers.antt"] = message_answer(method)
         if method.is_plain():
-            found[folder / method.name / "from_ref" / "Answers.antt"] = ref_answer(method, method.name, "from_ref")
-            found[folder / method.name / "from_view" / "Answers.antt"] = view_answer(method, method.name)
+            found[folder / (method.name + "TypedRef") / "of_ref" / "Answers.antt"] = ref_answer(method, method.name + "TypedRef")
+            found[folder / (method.name + "TypedView") / "of_view" / "Answers.antt"] = view_answer(method, method.name + "TypedView")
             continue
-        lent = method.name + "Ref"
-        found[folder / lent / "from_method" / "Answers.antt"] = ref_answer(method, lent, "from_method")
-        view = method.name + "View"
-        asking, reading = known_view_answers(method, view)
-        found[folder / view / "from_view" / "Answers.antt"] = asking
-        found[folder / view / "of_view" / "Answers.antt"] = reading
-        found[folder / method.name / "from_method" / "Answers.antt"] = owned_answer(method)
+        lent, view = method.name + "RefTypedRef", method.name + "ViewTypedView"
+        found[folder / lent / "of_ref" / "Answers.antt"] = ref_answer(method, lent)
+        found[folder / view / "of_view" / "Answers.antt"] = view_answer(method, view)
+        found[folder / (method.name + "Typed") / "of_method" / "Answers.antt"] = owned_answer(method)
     return found
 
 

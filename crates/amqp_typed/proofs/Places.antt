@@ -1,5 +1,5 @@
 -- The arguments of a method by their place.
-use Rattle.std.proofs.Common.{◌≡◌, ◌↔◌, ℕ, zero, suc, Bool, true, false, List, [], ◌∷◌, map, Option, Some, None, refl, sym, ap, ◌∙◌}
+use Rattle.std.proofs.Common.{◌≡◌, ℕ, zero, suc, List, [], ◌∷◌, map, Option, Some, None, refl, sym, ap, ◌∙◌}
 use Rattle.amqp_method.specs.Arguments.{Argument, Call, call, Fits, kind_of, wanted}
 use Rattle.amqp_method.specs.Kinds.{fields_of}
 use Rattle.amqp_method.specs.Places.{argument_at}
@@ -8,13 +8,6 @@ use Rattle.amqp_method.specs.declared.fields.Arg.{Arg}
 use Rattle.amqp_method.specs.declared.fields.FieldKind.{FieldKind}
 use Rattle.amqp_method.specs.declared.kinds.Kind.{Kind}
 use Rattle.amqp_typed.specs.Kinds.{nth_kind, kind_at}
-
--- what a test decides, where it says yes and where it says no
-pub when_yes : {b : Bool} {A : Type 0} → (b ≡ true) ↔ A → b ≡ true → (true ≡ true) ↔ A
-when_yes decides is = (λ yes. decides.0 is, λ a. refl)
-
-pub when_no : {b : Bool} {A : Type 0} → (b ≡ true) ↔ A → b ≡ false → (false ≡ true) ↔ A
-when_no decides is = (λ yes. absurd cc, λ a. sym is ∙ decides.1 a)
 
 kind_nth : (args : List Argument) (place : ℕ) (a : Argument) → argument_at place args ≡ Some a → nth_kind place (map kind_of args) ≡ Some (kind_of a)
 kind_nth [] place a e = absurd cc

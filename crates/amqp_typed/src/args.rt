@@ -1,5 +1,5 @@
 //! The arguments of a method, made and taken apart.
-ghost use Rattle.std.specs.Prelude.{◌≡◌, ◌↔◌, IfOk, IfErr, IsOk, IsSome, IsTrue, length, ◌∷◌, [], Some};
+ghost use Rattle.std.specs.Prelude.{◌≡◌, ◌↔◌, IfOk, IsSome, IsTrue, length, ◌∷◌, [], Some};
 ghost use Rattle.amqp_method.specs.Arguments.{call, Fits, kind_of, wanted, bit as bit_argument, octet as octet_argument, short as short_argument, long as long_argument, long_long as long_long_argument, short_string, long_string};
 ghost use Rattle.amqp_method.specs.HeaderView.{table_argument};
 ghost use Rattle.amqp_method.specs.Kinds.{fields_of};
@@ -47,21 +47,16 @@ pub(crate) fn is_kind(method: &Method, kind: Kind) -> bool
     is_same(method.kind(), kind)
 }
 
-/// The arguments of a method of this kind, or the method if it is of another.
-pub(crate) fn own_args<const N: usize>(method: Method, kind: Kind) -> Result<[Arg; N], Method>
-    requires { length (wanted (fields_of kind)) ≡ N }
-    ensures args { IfOk result (λ args. call kind (args_view args) ≡ method_view method) }
-    ensures fit { IfOk result (λ args. Fits (call kind (args_view args))) }
-    ensures when { IsOk result ↔ ((method_view method).kind ≡ kind) }
-    ensures same { IfErr result (λ m. method_view m ≡ method_view method) }
+/// The arguments of a method of this kind.
+pub(crate) fn own_args<const N: usize>(method: Method, kind: Kind) -> [Arg; N]
+    requires { ((method_view method).kind ≡ kind) × (length (wanted (fields_of kind)) ≡ N) }
+    ensures args { call kind (args_view result) ≡ method_view method }
+    ensures fit { Fits (call kind (args_view result)) }
 {
-    if !is_kind(&method, kind) {
-        return Err(method);
-    }
     let Ok(args) = <[Arg; N]>::try_from(method.into_args()) else {
         unreachable!()
     };
-    Ok(args)
+    args
 }
 
 /// The value of an argument of this kind.

@@ -1,14 +1,13 @@
 //! Methods without arguments.
-ghost use Rattle.std.specs.Prelude.{◌≡◌, ◌↔◌, IfOk, IfErr, IfSome, IsOk, IsOkAnd, IsSome, Some, true, []};
+ghost use Rattle.std.specs.Prelude.{◌≡◌, IsOkAnd, true, []};
 ghost use Rattle.std.specs.Cmp.Rules.{comparing};
 ghost use Rattle.std.proofs.Common.{rules};
 ghost use Rattle.amqp_method.specs.Arguments.{call, wanted};
 ghost use Rattle.amqp_method.specs.Kinds.{fields_of};
-ghost use Rattle.amqp_method.specs.MethodRefView.{lent_call};
 ghost use Rattle.amqp_method.specs.MethodView.{method_view};
 
-use crate::args::{bare_method, is_kind};
-use crate::views::is_view_of;
+use crate::args::bare_method;
+use crate::typed::{Typed, TypedRef, TypedView};
 use amqp_method::{Kind, Method, MethodRef, OutOfMemory};
 use std::alloc::Global;
 use std::fmt;
@@ -35,62 +34,44 @@ impl<K: BareKind> Bare<K> {
     pub fn new() -> Bare<K> {
         Bare { kind: PhantomData }
     }
+}
+
+impl<K: BareKind> Typed for Bare<K> {
+    ghost KIND = { K.KIND };
+
+    ghost says = { λ _. call K.KIND [] };
+
+    const KIND: Kind = K::KIND;
 
     /// The method, which takes no memory.
-    pub fn into_method(self, alloc: Global) -> Result<Method, OutOfMemory>
+    fn into_method(self, alloc: Global) -> Result<Method, OutOfMemory>
         ensures { IsOkAnd result (λ m. method_view m ≡ call K.KIND []) }
     {
         Ok(bare_method(alloc, K::KIND))
     }
 
-    /// What the method says, or the method as it was if it is another.
-    pub fn from_method(method: Method) -> Result<Bare<K>, Method>
-        ensures args { IfOk result (λ m. call K.KIND [] ≡ method_view method) }
-        ensures when { IsOk result ↔ ((method_view method).kind ≡ K.KIND) }
-        ensures same { IfErr result (λ m. method_view m ≡ method_view method) }
-    {
-        match Bare::from_ref(&method) {
-            Some(bare) => Ok(bare),
-            None => Err(method),
-        }
+    fn of_method(_method: Method) -> Bare<K> {
+        Bare::new()
     }
+}
 
-    /// What a method of this kind says.
-    pub(crate) fn of_method(method: Method) -> Bare<K>
-        requires { (method_view method).kind ≡ K.KIND }
-        ensures { call K.KIND [] ≡ method_view method }
-    {
-        Bare::from_method(method).unwrap()
+impl<'a, K: BareKind> TypedRef<'a> for Bare<K> {
+    type Of = Bare<K>;
+
+    ghost lends = { λ _. call K.KIND [] };
+
+    fn of_ref(_method: &'a Method) -> Bare<K> {
+        Bare::new()
     }
+}
 
-    /// What a method of this kind says.
-    pub(crate) fn of_view(method: MethodRef<'_>) -> Bare<K>
-        requires { (lent_call method).kind ≡ K.KIND }
-        ensures { call K.KIND [] ≡ lent_call method.entry }
-    {
-        Bare::from_view(method).unwrap()
-    }
+impl<'a, K: BareKind> TypedView<'a> for Bare<K> {
+    type Of = Bare<K>;
 
-    /// What the method says, if it is this one.
-    pub fn from_ref(method: &Method) -> Option<Bare<K>>
-        ensures args { IfSome result (λ m. call K.KIND [] ≡ method_view method.now) }
-        ensures when { IsSome result ↔ ((method_view method.now).kind ≡ K.KIND) }
-    {
-        if is_kind(method, K::KIND) {
-            return Some(Bare::new());
-        }
-        None
-    }
+    ghost shows = { λ _. call K.KIND [] };
 
-    /// What the method says, if it is this one.
-    pub fn from_view(method: MethodRef<'_>) -> Option<Bare<K>>
-        ensures args { IfSome result (λ m. call K.KIND [] ≡ lent_call method.entry) }
-        ensures when { IsSome result ↔ ((lent_call method.entry).kind ≡ K.KIND) }
-    {
-        if is_view_of(method, K::KIND) {
-            return Some(Bare::new());
-        }
-        None
+    fn of_view(_method: MethodRef<'a>) -> Bare<K> {
+        Bare::new()
     }
 }
 

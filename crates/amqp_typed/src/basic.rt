@@ -1,8 +1,8 @@
 //! The methods of the class basic (`amqp0-9-1.xml`, class 60).
 // Written by `tools/typed_methods.py` from the table of methods in `docs/PROTOCOL.md`: change those and run it again.
-ghost use Rattle.std.specs.Prelude.{◌≡◌, ◌↔◌, IfOk, IfErr, IfSome, IsOk, IsSome, false, ◌∷◌, []};
+ghost use Rattle.std.specs.Prelude.{◌≡◌, IfOk, false, ◌∷◌, []};
 ghost use Rattle.amqp_value.specs.Values.{no_pairs};
-ghost use Rattle.amqp_method.specs.Arguments.{call, Fits, bit, short, long, long_long, short_string, table};
+ghost use Rattle.amqp_method.specs.Arguments.{call, bit, short, long, long_long, short_string, table};
 ghost use Rattle.amqp_method.specs.HeaderView.{properties_view};
 ghost use Rattle.amqp_method.specs.MessageView.{message_view};
 ghost use Rattle.amqp_method.specs.Messages.{letter_with};
@@ -13,15 +13,14 @@ ghost use Rattle.amqp_method.specs.declared.kinds.Kind.TheVariants.{BasicQos, Ba
 ghost use Rattle.amqp_typed.specs.Basic.{qos_call, consume_call, consume_ok_call, cancel_call, cancel_ok_call, publish_call, return_call, deliver_call, get_call, get_ok_call, ack_call, reject_call, recover_async_call, recover_call, nack_call, consume_ref_call, consume_ok_ref_call, cancel_ref_call, cancel_ok_ref_call, publish_ref_call, return_ref_call, deliver_ref_call, get_ref_call, get_ok_ref_call, consume_view_call, consume_ok_view_call, cancel_view_call, cancel_ok_view_call, publish_view_call, return_view_call, deliver_view_call, get_view_call, get_ok_view_call, any_call, any_view_call};
 
 use crate::args::{
-    bit, bit_at, five, four, is_kind, long, long_at, long_long, long_long_at, method_of, one,
-    own_args, seven, short, short_at, short_str, short_str_at, table, table_at, two,
+    bit, bit_at, five, four, long, long_at, long_long, long_long_at, method_of, one, own_args,
+    seven, short, short_at, short_str, short_str_at, table, table_at, two,
 };
 use crate::bare::Bare;
 use crate::bare_kinds::{BasicGetEmpty, BasicQosOk, BasicRecoverOk};
 use crate::contents::content_of;
-use crate::views::{
-    bit_in, is_view_of, kind_in, long_in, long_long_in, short_in, short_str_in, table_in,
-};
+use crate::typed::{Typed, TypedRef, TypedView};
+use crate::views::{bit_in, kind_in, long_in, long_long_in, short_in, short_str_in, table_in};
 use amqp_method::{Arg, Kind, Message, Method, MethodRef, OutOfMemory, Properties};
 use amqp_value::{ShortStr, Table, TableRef};
 use std::alloc::Global;
@@ -49,11 +48,16 @@ impl Qos {
             global: false,
         }
     }
+}
 
-    /// The method with these arguments.
-    pub fn into_method(self, alloc: Global) -> Result<Method, OutOfMemory>
-        ensures { IfOk result (λ m. method_view m ≡ qos_call self) }
-    {
+impl Typed for Qos {
+    ghost KIND = { BasicQos };
+
+    ghost says = { qos_call };
+
+    const KIND: Kind = Kind::BasicQos;
+
+    fn into_method(self, alloc: Global) -> Result<Method, OutOfMemory> {
         method_of(
             alloc,
             Kind::BasicQos,
@@ -65,46 +69,36 @@ impl Qos {
         )
     }
 
-    /// What the method says, or the method as it was if it is another.
-    pub fn from_method(method: Method) -> Result<Qos, Method>
-        ensures args { IfOk result (λ m. qos_call m ≡ method_view method) }
-        ensures when { IsOk result ↔ ((method_view method).kind ≡ BasicQos) }
-        ensures same { IfErr result (λ m. method_view m ≡ method_view method) }
-    {
-        match Qos::from_ref(&method) {
-            Some(qos) => Ok(qos),
-            None => Err(method),
-        }
+    fn of_method(method: Method) -> Qos {
+        Qos::of_ref(&method)
     }
+}
 
-    /// What the method says, if it is this one.
-    pub fn from_ref(method: &Method) -> Option<Qos>
-        ensures args { IfSome result (λ m. qos_call m ≡ method_view method.now) }
-        ensures when { IsSome result ↔ ((method_view method.now).kind ≡ BasicQos) }
-    {
-        if !is_kind(method, Kind::BasicQos) {
-            return None;
-        }
-        Some(Qos {
+impl<'a> TypedRef<'a> for Qos {
+    type Of = Qos;
+
+    ghost lends = { qos_call };
+
+    fn of_ref(method: &'a Method) -> Qos {
+        Qos {
             prefetch_size: long_at(method, 0),
             prefetch_count: short_at(method, 1),
             global: bit_at(method, 2),
-        })
-    }
-
-    /// What the method says, if it is this one.
-    pub fn from_view(method: MethodRef<'_>) -> Option<Qos>
-        ensures args { IfSome result (λ m. qos_call m ≡ lent_call method.entry) }
-        ensures when { IsSome result ↔ ((lent_call method.entry).kind ≡ BasicQos) }
-    {
-        if !is_view_of(method, Kind::BasicQos) {
-            return None;
         }
-        Some(Qos {
+    }
+}
+
+impl<'a> TypedView<'a> for Qos {
+    type Of = Qos;
+
+    ghost shows = { qos_call };
+
+    fn of_view(method: MethodRef<'a>) -> Qos {
+        Qos {
             prefetch_size: long_in(method, 0),
             prefetch_count: short_in(method, 1),
             global: bit_in(method, 2),
-        })
+        }
     }
 }
 
@@ -145,11 +139,16 @@ impl Consume {
             arguments: Table::new(alloc),
         }
     }
+}
 
-    /// The method with these arguments.
-    pub fn into_method(self, alloc: Global) -> Result<Method, OutOfMemory>
-        ensures { IfOk result (λ m. method_view m ≡ consume_call self) }
-    {
+impl Typed for Consume {
+    ghost KIND = { BasicConsume };
+
+    ghost says = { consume_call };
+
+    const KIND: Kind = Kind::BasicConsume;
+
+    fn into_method(self, alloc: Global) -> Result<Method, OutOfMemory> {
         method_of(
             alloc,
             Kind::BasicConsume,
@@ -165,26 +164,16 @@ impl Consume {
         )
     }
 
-    /// What the method says, or the method as it was if it is another.
-    pub fn from_method(method: Method) -> Result<Consume, Method>
-        ensures args { IfOk result (λ m. consume_call m ≡ method_view method) }
-        ensures when { IsOk result ↔ ((method_view method).kind ≡ BasicConsume) }
-        ensures same { IfErr result (λ m. method_view m ≡ method_view method) }
-    {
-        match own_args(method, Kind::BasicConsume) {
-            Ok(args) => {
-                let taken = seven(args);
-                Ok(Consume {
-                    queue: short_str(taken.0),
-                    consumer_tag: short_str(taken.1),
-                    no_local: bit(taken.2),
-                    no_ack: bit(taken.3),
-                    exclusive: bit(taken.4),
-                    no_wait: bit(taken.5),
-                    arguments: table(taken.6),
-                })
-            }
-            Err(method) => Err(method),
+    fn of_method(method: Method) -> Consume {
+        let taken = seven(own_args(method, Kind::BasicConsume));
+        Consume {
+            queue: short_str(taken.0),
+            consumer_tag: short_str(taken.1),
+            no_local: bit(taken.2),
+            no_ack: bit(taken.3),
+            exclusive: bit(taken.4),
+            no_wait: bit(taken.5),
+            arguments: table(taken.6),
         }
     }
 }
@@ -201,16 +190,13 @@ pub struct ConsumeRef<'a> {
     pub arguments: &'a Table,
 }
 
-impl<'a> ConsumeRef<'a> {
-    /// What the method says, if it is this one.
-    pub fn from_method(method: &'a Method) -> Option<ConsumeRef<'a>>
-        ensures args { IfSome result (λ m. consume_ref_call m ≡ method_view method.now) }
-        ensures when { IsSome result ↔ ((method_view method.now).kind ≡ BasicConsume) }
-    {
-        if !is_kind(method, Kind::BasicConsume) {
-            return None;
-        }
-        Some(ConsumeRef {
+impl<'a> TypedRef<'a> for ConsumeRef<'a> {
+    type Of = Consume;
+
+    ghost lends = { consume_ref_call };
+
+    fn of_ref(method: &'a Method) -> ConsumeRef<'a> {
+        ConsumeRef {
             queue: short_str_at(method, 0),
             consumer_tag: short_str_at(method, 1),
             no_local: bit_at(method, 2),
@@ -218,7 +204,7 @@ impl<'a> ConsumeRef<'a> {
             exclusive: bit_at(method, 4),
             no_wait: bit_at(method, 5),
             arguments: table_at(method, 6),
-        })
+        }
     }
 }
 
@@ -234,23 +220,12 @@ pub struct ConsumeView<'a> {
     pub arguments: TableRef<'a>,
 }
 
-impl<'a> ConsumeView<'a> {
-    /// What the method says, if it is this one.
-    pub fn from_view(method: MethodRef<'a>) -> Option<ConsumeView<'a>>
-        ensures args { IfSome result (λ m. consume_view_call m ≡ lent_call method.entry) }
-        ensures when { IsSome result ↔ ((lent_call method.entry).kind ≡ BasicConsume) }
-    {
-        if !is_view_of(method, Kind::BasicConsume) {
-            return None;
-        }
-        Some(ConsumeView::of_view(method))
-    }
+impl<'a> TypedView<'a> for ConsumeView<'a> {
+    type Of = Consume;
 
-    /// What a method of this kind says.
-    fn of_view(method: MethodRef<'a>) -> ConsumeView<'a>
-        requires { Fits (lent_call method) × ((lent_call method).kind ≡ BasicConsume) }
-        ensures { consume_view_call result ≡ lent_call method.entry }
-    {
+    ghost shows = { consume_view_call };
+
+    fn of_view(method: MethodRef<'a>) -> ConsumeView<'a> {
         ConsumeView {
             queue: short_str_in(method, 0),
             consumer_tag: short_str_in(method, 1),
@@ -276,11 +251,16 @@ impl ConsumeOk {
     {
         ConsumeOk { consumer_tag }
     }
+}
 
-    /// The method with these arguments.
-    pub fn into_method(self, alloc: Global) -> Result<Method, OutOfMemory>
-        ensures { IfOk result (λ m. method_view m ≡ consume_ok_call self) }
-    {
+impl Typed for ConsumeOk {
+    ghost KIND = { BasicConsumeOk };
+
+    ghost says = { consume_ok_call };
+
+    const KIND: Kind = Kind::BasicConsumeOk;
+
+    fn into_method(self, alloc: Global) -> Result<Method, OutOfMemory> {
         method_of(
             alloc,
             Kind::BasicConsumeOk,
@@ -288,20 +268,10 @@ impl ConsumeOk {
         )
     }
 
-    /// What the method says, or the method as it was if it is another.
-    pub fn from_method(method: Method) -> Result<ConsumeOk, Method>
-        ensures args { IfOk result (λ m. consume_ok_call m ≡ method_view method) }
-        ensures when { IsOk result ↔ ((method_view method).kind ≡ BasicConsumeOk) }
-        ensures same { IfErr result (λ m. method_view m ≡ method_view method) }
-    {
-        match own_args(method, Kind::BasicConsumeOk) {
-            Ok(args) => {
-                let taken = one(args);
-                Ok(ConsumeOk {
-                    consumer_tag: short_str(taken),
-                })
-            }
-            Err(method) => Err(method),
+    fn of_method(method: Method) -> ConsumeOk {
+        let taken = one(own_args(method, Kind::BasicConsumeOk));
+        ConsumeOk {
+            consumer_tag: short_str(taken),
         }
     }
 }
@@ -312,18 +282,15 @@ pub struct ConsumeOkRef<'a> {
     pub consumer_tag: &'a ShortStr,
 }
 
-impl<'a> ConsumeOkRef<'a> {
-    /// What the method says, if it is this one.
-    pub fn from_method(method: &'a Method) -> Option<ConsumeOkRef<'a>>
-        ensures args { IfSome result (λ m. consume_ok_ref_call m ≡ method_view method.now) }
-        ensures when { IsSome result ↔ ((method_view method.now).kind ≡ BasicConsumeOk) }
-    {
-        if !is_kind(method, Kind::BasicConsumeOk) {
-            return None;
-        }
-        Some(ConsumeOkRef {
+impl<'a> TypedRef<'a> for ConsumeOkRef<'a> {
+    type Of = ConsumeOk;
+
+    ghost lends = { consume_ok_ref_call };
+
+    fn of_ref(method: &'a Method) -> ConsumeOkRef<'a> {
+        ConsumeOkRef {
             consumer_tag: short_str_at(method, 0),
-        })
+        }
     }
 }
 
@@ -333,23 +300,12 @@ pub struct ConsumeOkView<'a> {
     pub consumer_tag: &'a [u8],
 }
 
-impl<'a> ConsumeOkView<'a> {
-    /// What the method says, if it is this one.
-    pub fn from_view(method: MethodRef<'a>) -> Option<ConsumeOkView<'a>>
-        ensures args { IfSome result (λ m. consume_ok_view_call m ≡ lent_call method.entry) }
-        ensures when { IsSome result ↔ ((lent_call method.entry).kind ≡ BasicConsumeOk) }
-    {
-        if !is_view_of(method, Kind::BasicConsumeOk) {
-            return None;
-        }
-        Some(ConsumeOkView::of_view(method))
-    }
+impl<'a> TypedView<'a> for ConsumeOkView<'a> {
+    type Of = ConsumeOk;
 
-    /// What a method of this kind says.
-    fn of_view(method: MethodRef<'a>) -> ConsumeOkView<'a>
-        requires { Fits (lent_call method) × ((lent_call method).kind ≡ BasicConsumeOk) }
-        ensures { consume_ok_view_call result ≡ lent_call method.entry }
-    {
+    ghost shows = { consume_ok_view_call };
+
+    fn of_view(method: MethodRef<'a>) -> ConsumeOkView<'a> {
         ConsumeOkView {
             consumer_tag: short_str_in(method, 0),
         }
@@ -375,11 +331,16 @@ impl Cancel {
             no_wait: false,
         }
     }
+}
 
-    /// The method with these arguments.
-    pub fn into_method(self, alloc: Global) -> Result<Method, OutOfMemory>
-        ensures { IfOk result (λ m. method_view m ≡ cancel_call self) }
-    {
+impl Typed for Cancel {
+    ghost KIND = { BasicCancel };
+
+    ghost says = { cancel_call };
+
+    const KIND: Kind = Kind::BasicCancel;
+
+    fn into_method(self, alloc: Global) -> Result<Method, OutOfMemory> {
         method_of(
             alloc,
             Kind::BasicCancel,
@@ -387,21 +348,11 @@ impl Cancel {
         )
     }
 
-    /// What the method says, or the method as it was if it is another.
-    pub fn from_method(method: Method) -> Result<Cancel, Method>
-        ensures args { IfOk result (λ m. cancel_call m ≡ method_view method) }
-        ensures when { IsOk result ↔ ((method_view method).kind ≡ BasicCancel) }
-        ensures same { IfErr result (λ m. method_view m ≡ method_view method) }
-    {
-        match own_args(method, Kind::BasicCancel) {
-            Ok(args) => {
-                let taken = two(args);
-                Ok(Cancel {
-                    consumer_tag: short_str(taken.0),
-                    no_wait: bit(taken.1),
-                })
-            }
-            Err(method) => Err(method),
+    fn of_method(method: Method) -> Cancel {
+        let taken = two(own_args(method, Kind::BasicCancel));
+        Cancel {
+            consumer_tag: short_str(taken.0),
+            no_wait: bit(taken.1),
         }
     }
 }
@@ -413,19 +364,16 @@ pub struct CancelRef<'a> {
     pub no_wait: bool,
 }
 
-impl<'a> CancelRef<'a> {
-    /// What the method says, if it is this one.
-    pub fn from_method(method: &'a Method) -> Option<CancelRef<'a>>
-        ensures args { IfSome result (λ m. cancel_ref_call m ≡ method_view method.now) }
-        ensures when { IsSome result ↔ ((method_view method.now).kind ≡ BasicCancel) }
-    {
-        if !is_kind(method, Kind::BasicCancel) {
-            return None;
-        }
-        Some(CancelRef {
+impl<'a> TypedRef<'a> for CancelRef<'a> {
+    type Of = Cancel;
+
+    ghost lends = { cancel_ref_call };
+
+    fn of_ref(method: &'a Method) -> CancelRef<'a> {
+        CancelRef {
             consumer_tag: short_str_at(method, 0),
             no_wait: bit_at(method, 1),
-        })
+        }
     }
 }
 
@@ -436,23 +384,12 @@ pub struct CancelView<'a> {
     pub no_wait: bool,
 }
 
-impl<'a> CancelView<'a> {
-    /// What the method says, if it is this one.
-    pub fn from_view(method: MethodRef<'a>) -> Option<CancelView<'a>>
-        ensures args { IfSome result (λ m. cancel_view_call m ≡ lent_call method.entry) }
-        ensures when { IsSome result ↔ ((lent_call method.entry).kind ≡ BasicCancel) }
-    {
-        if !is_view_of(method, Kind::BasicCancel) {
-            return None;
-        }
-        Some(CancelView::of_view(method))
-    }
+impl<'a> TypedView<'a> for CancelView<'a> {
+    type Of = Cancel;
 
-    /// What a method of this kind says.
-    fn of_view(method: MethodRef<'a>) -> CancelView<'a>
-        requires { Fits (lent_call method) × ((lent_call method).kind ≡ BasicCancel) }
-        ensures { cancel_view_call result ≡ lent_call method.entry }
-    {
+    ghost shows = { cancel_view_call };
+
+    fn of_view(method: MethodRef<'a>) -> CancelView<'a> {
         CancelView {
             consumer_tag: short_str_in(method, 0),
             no_wait: bit_in(method, 1),
@@ -473,11 +410,16 @@ impl CancelOk {
     {
         CancelOk { consumer_tag }
     }
+}
 
-    /// The method with these arguments.
-    pub fn into_method(self, alloc: Global) -> Result<Method, OutOfMemory>
-        ensures { IfOk result (λ m. method_view m ≡ cancel_ok_call self) }
-    {
+impl Typed for CancelOk {
+    ghost KIND = { BasicCancelOk };
+
+    ghost says = { cancel_ok_call };
+
+    const KIND: Kind = Kind::BasicCancelOk;
+
+    fn into_method(self, alloc: Global) -> Result<Method, OutOfMemory> {
         method_of(
             alloc,
             Kind::BasicCancelOk,
@@ -485,20 +427,10 @@ impl CancelOk {
         )
     }
 
-    /// What the method says, or the method as it was if it is another.
-    pub fn from_method(method: Method) -> Result<CancelOk, Method>
-        ensures args { IfOk result (λ m. cancel_ok_call m ≡ method_view method) }
-        ensures when { IsOk result ↔ ((method_view method).kind ≡ BasicCancelOk) }
-        ensures same { IfErr result (λ m. method_view m ≡ method_view method) }
-    {
-        match own_args(method, Kind::BasicCancelOk) {
-            Ok(args) => {
-                let taken = one(args);
-                Ok(CancelOk {
-                    consumer_tag: short_str(taken),
-                })
-            }
-            Err(method) => Err(method),
+    fn of_method(method: Method) -> CancelOk {
+        let taken = one(own_args(method, Kind::BasicCancelOk));
+        CancelOk {
+            consumer_tag: short_str(taken),
         }
     }
 }
@@ -509,18 +441,15 @@ pub struct CancelOkRef<'a> {
     pub consumer_tag: &'a ShortStr,
 }
 
-impl<'a> CancelOkRef<'a> {
-    /// What the method says, if it is this one.
-    pub fn from_method(method: &'a Method) -> Option<CancelOkRef<'a>>
-        ensures args { IfSome result (λ m. cancel_ok_ref_call m ≡ method_view method.now) }
-        ensures when { IsSome result ↔ ((method_view method.now).kind ≡ BasicCancelOk) }
-    {
-        if !is_kind(method, Kind::BasicCancelOk) {
-            return None;
-        }
-        Some(CancelOkRef {
+impl<'a> TypedRef<'a> for CancelOkRef<'a> {
+    type Of = CancelOk;
+
+    ghost lends = { cancel_ok_ref_call };
+
+    fn of_ref(method: &'a Method) -> CancelOkRef<'a> {
+        CancelOkRef {
             consumer_tag: short_str_at(method, 0),
-        })
+        }
     }
 }
 
@@ -530,23 +459,12 @@ pub struct CancelOkView<'a> {
     pub consumer_tag: &'a [u8],
 }
 
-impl<'a> CancelOkView<'a> {
-    /// What the method says, if it is this one.
-    pub fn from_view(method: MethodRef<'a>) -> Option<CancelOkView<'a>>
-        ensures args { IfSome result (λ m. cancel_ok_view_call m ≡ lent_call method.entry) }
-        ensures when { IsSome result ↔ ((lent_call method.entry).kind ≡ BasicCancelOk) }
-    {
-        if !is_view_of(method, Kind::BasicCancelOk) {
-            return None;
-        }
-        Some(CancelOkView::of_view(method))
-    }
+impl<'a> TypedView<'a> for CancelOkView<'a> {
+    type Of = CancelOk;
 
-    /// What a method of this kind says.
-    fn of_view(method: MethodRef<'a>) -> CancelOkView<'a>
-        requires { Fits (lent_call method) × ((lent_call method).kind ≡ BasicCancelOk) }
-        ensures { cancel_ok_view_call result ≡ lent_call method.entry }
-    {
+    ghost shows = { cancel_ok_view_call };
+
+    fn of_view(method: MethodRef<'a>) -> CancelOkView<'a> {
         CancelOkView {
             consumer_tag: short_str_in(method, 0),
         }
@@ -579,22 +497,6 @@ impl Publish {
         }
     }
 
-    /// The method with these arguments.
-    pub fn into_method(self, alloc: Global) -> Result<Method, OutOfMemory>
-        ensures { IfOk result (λ m. method_view m ≡ publish_call self) }
-    {
-        method_of(
-            alloc,
-            Kind::BasicPublish,
-            [
-                Arg::ShortStr(self.exchange),
-                Arg::ShortStr(self.routing_key),
-                Arg::Bit(self.mandatory),
-                Arg::Bit(self.immediate),
-            ],
-        )
-    }
-
     /// The message: the method with these arguments, and the content that follows it.
     pub fn message(
         self,
@@ -607,24 +509,35 @@ impl Publish {
     {
         content_of(self.into_method(alloc), properties, body)
     }
+}
 
-    /// What the method says, or the method as it was if it is another.
-    pub fn from_method(method: Method) -> Result<Publish, Method>
-        ensures args { IfOk result (λ m. publish_call m ≡ method_view method) }
-        ensures when { IsOk result ↔ ((method_view method).kind ≡ BasicPublish) }
-        ensures same { IfErr result (λ m. method_view m ≡ method_view method) }
-    {
-        match own_args(method, Kind::BasicPublish) {
-            Ok(args) => {
-                let taken = four(args);
-                Ok(Publish {
-                    exchange: short_str(taken.0),
-                    routing_key: short_str(taken.1),
-                    mandatory: bit(taken.2),
-                    immediate: bit(taken.3),
-                })
-            }
-            Err(method) => Err(method),
+impl Typed for Publish {
+    ghost KIND = { BasicPublish };
+
+    ghost says = { publish_call };
+
+    const KIND: Kind = Kind::BasicPublish;
+
+    fn into_method(self, alloc: Global) -> Result<Method, OutOfMemory> {
+        method_of(
+            alloc,
+            Kind::BasicPublish,
+            [
+                Arg::ShortStr(self.exchange),
+                Arg::ShortStr(self.routing_key),
+                Arg::Bit(self.mandatory),
+                Arg::Bit(self.immediate),
+            ],
+        )
+    }
+
+    fn of_method(method: Method) -> Publish {
+        let taken = four(own_args(method, Kind::BasicPublish));
+        Publish {
+            exchange: short_str(taken.0),
+            routing_key: short_str(taken.1),
+            mandatory: bit(taken.2),
+            immediate: bit(taken.3),
         }
     }
 }
@@ -638,21 +551,18 @@ pub struct PublishRef<'a> {
     pub immediate: bool,
 }
 
-impl<'a> PublishRef<'a> {
-    /// What the method says, if it is this one.
-    pub fn from_method(method: &'a Method) -> Option<PublishRef<'a>>
-        ensures args { IfSome result (λ m. publish_ref_call m ≡ method_view method.now) }
-        ensures when { IsSome result ↔ ((method_view method.now).kind ≡ BasicPublish) }
-    {
-        if !is_kind(method, Kind::BasicPublish) {
-            return None;
-        }
-        Some(PublishRef {
+impl<'a> TypedRef<'a> for PublishRef<'a> {
+    type Of = Publish;
+
+    ghost lends = { publish_ref_call };
+
+    fn of_ref(method: &'a Method) -> PublishRef<'a> {
+        PublishRef {
             exchange: short_str_at(method, 0),
             routing_key: short_str_at(method, 1),
             mandatory: bit_at(method, 2),
             immediate: bit_at(method, 3),
-        })
+        }
     }
 }
 
@@ -665,23 +575,12 @@ pub struct PublishView<'a> {
     pub immediate: bool,
 }
 
-impl<'a> PublishView<'a> {
-    /// What the method says, if it is this one.
-    pub fn from_view(method: MethodRef<'a>) -> Option<PublishView<'a>>
-        ensures args { IfSome result (λ m. publish_view_call m ≡ lent_call method.entry) }
-        ensures when { IsSome result ↔ ((lent_call method.entry).kind ≡ BasicPublish) }
-    {
-        if !is_view_of(method, Kind::BasicPublish) {
-            return None;
-        }
-        Some(PublishView::of_view(method))
-    }
+impl<'a> TypedView<'a> for PublishView<'a> {
+    type Of = Publish;
 
-    /// What a method of this kind says.
-    fn of_view(method: MethodRef<'a>) -> PublishView<'a>
-        requires { Fits (lent_call method) × ((lent_call method).kind ≡ BasicPublish) }
-        ensures { publish_view_call result ≡ lent_call method.entry }
-    {
+    ghost shows = { publish_view_call };
+
+    fn of_view(method: MethodRef<'a>) -> PublishView<'a> {
         PublishView {
             exchange: short_str_in(method, 0),
             routing_key: short_str_in(method, 1),
@@ -720,22 +619,6 @@ impl Return {
         }
     }
 
-    /// The method with these arguments.
-    pub fn into_method(self, alloc: Global) -> Result<Method, OutOfMemory>
-        ensures { IfOk result (λ m. method_view m ≡ return_call self) }
-    {
-        method_of(
-            alloc,
-            Kind::BasicReturn,
-            [
-                Arg::Short(self.reply_code),
-                Arg::ShortStr(self.reply_text),
-                Arg::ShortStr(self.exchange),
-                Arg::ShortStr(self.routing_key),
-            ],
-        )
-    }
-
     /// The message: the method with these arguments, and the content that follows it.
     pub fn message(
         self,
@@ -748,24 +631,35 @@ impl Return {
     {
         content_of(self.into_method(alloc), properties, body)
     }
+}
 
-    /// What the method says, or the method as it was if it is another.
-    pub fn from_method(method: Method) -> Result<Return, Method>
-        ensures args { IfOk result (λ m. return_call m ≡ method_view method) }
-        ensures when { IsOk result ↔ ((method_view method).kind ≡ BasicReturn) }
-        ensures same { IfErr result (λ m. method_view m ≡ method_view method) }
-    {
-        match own_args(method, Kind::BasicReturn) {
-            Ok(args) => {
-                let taken = four(args);
-                Ok(Return {
-                    reply_code: short(taken.0),
-                    reply_text: short_str(taken.1),
-                    exchange: short_str(taken.2),
-                    routing_key: short_str(taken.3),
-                })
-            }
-            Err(method) => Err(method),
+impl Typed for Return {
+    ghost KIND = { BasicReturn };
+
+    ghost says = { return_call };
+
+    const KIND: Kind = Kind::BasicReturn;
+
+    fn into_method(self, alloc: Global) -> Result<Method, OutOfMemory> {
+        method_of(
+            alloc,
+            Kind::BasicReturn,
+            [
+                Arg::Short(self.reply_code),
+                Arg::ShortStr(self.reply_text),
+                Arg::ShortStr(self.exchange),
+                Arg::ShortStr(self.routing_key),
+            ],
+        )
+    }
+
+    fn of_method(method: Method) -> Return {
+        let taken = four(own_args(method, Kind::BasicReturn));
+        Return {
+            reply_code: short(taken.0),
+            reply_text: short_str(taken.1),
+            exchange: short_str(taken.2),
+            routing_key: short_str(taken.3),
         }
     }
 }
@@ -779,21 +673,18 @@ pub struct ReturnRef<'a> {
     pub routing_key: &'a ShortStr,
 }
 
-impl<'a> ReturnRef<'a> {
-    /// What the method says, if it is this one.
-    pub fn from_method(method: &'a Method) -> Option<ReturnRef<'a>>
-        ensures args { IfSome result (λ m. return_ref_call m ≡ method_view method.now) }
-        ensures when { IsSome result ↔ ((method_view method.now).kind ≡ BasicReturn) }
-    {
-        if !is_kind(method, Kind::BasicReturn) {
-            return None;
-        }
-        Some(ReturnRef {
+impl<'a> TypedRef<'a> for ReturnRef<'a> {
+    type Of = Return;
+
+    ghost lends = { return_ref_call };
+
+    fn of_ref(method: &'a Method) -> ReturnRef<'a> {
+        ReturnRef {
             reply_code: short_at(method, 0),
             reply_text: short_str_at(method, 1),
             exchange: short_str_at(method, 2),
             routing_key: short_str_at(method, 3),
-        })
+        }
     }
 }
 
@@ -806,23 +697,12 @@ pub struct ReturnView<'a> {
     pub routing_key: &'a [u8],
 }
 
-impl<'a> ReturnView<'a> {
-    /// What the method says, if it is this one.
-    pub fn from_view(method: MethodRef<'a>) -> Option<ReturnView<'a>>
-        ensures args { IfSome result (λ m. return_view_call m ≡ lent_call method.entry) }
-        ensures when { IsSome result ↔ ((lent_call method.entry).kind ≡ BasicReturn) }
-    {
-        if !is_view_of(method, Kind::BasicReturn) {
-            return None;
-        }
-        Some(ReturnView::of_view(method))
-    }
+impl<'a> TypedView<'a> for ReturnView<'a> {
+    type Of = Return;
 
-    /// What a method of this kind says.
-    fn of_view(method: MethodRef<'a>) -> ReturnView<'a>
-        requires { Fits (lent_call method) × ((lent_call method).kind ≡ BasicReturn) }
-        ensures { return_view_call result ≡ lent_call method.entry }
-    {
+    ghost shows = { return_view_call };
+
+    fn of_view(method: MethodRef<'a>) -> ReturnView<'a> {
         ReturnView {
             reply_code: short_in(method, 0),
             reply_text: short_str_in(method, 1),
@@ -865,10 +745,28 @@ impl Deliver {
         }
     }
 
-    /// The method with these arguments.
-    pub fn into_method(self, alloc: Global) -> Result<Method, OutOfMemory>
-        ensures { IfOk result (λ m. method_view m ≡ deliver_call self) }
+    /// The message: the method with these arguments, and the content that follows it.
+    pub fn message(
+        self,
+        alloc: Global,
+        properties: Properties,
+        body: Vec<u8>,
+    ) -> Result<Message, OutOfMemory>
+        ensures { IfOk result (λ m. message_view m
+            ≡ letter_with (deliver_call self) (properties_view properties) body.items) }
     {
+        content_of(self.into_method(alloc), properties, body)
+    }
+}
+
+impl Typed for Deliver {
+    ghost KIND = { BasicDeliver };
+
+    ghost says = { deliver_call };
+
+    const KIND: Kind = Kind::BasicDeliver;
+
+    fn into_method(self, alloc: Global) -> Result<Method, OutOfMemory> {
         method_of(
             alloc,
             Kind::BasicDeliver,
@@ -882,37 +780,14 @@ impl Deliver {
         )
     }
 
-    /// The message: the method with these arguments, and the content that follows it.
-    pub fn message(
-        self,
-        alloc: Global,
-        properties: Properties,
-        body: Vec<u8>,
-    ) -> Result<Message, OutOfMemory>
-        ensures { IfOk result (λ m. message_view m
-            ≡ letter_with (deliver_call self) (properties_view properties) body.items) }
-    {
-        content_of(self.into_method(alloc), properties, body)
-    }
-
-    /// What the method says, or the method as it was if it is another.
-    pub fn from_method(method: Method) -> Result<Deliver, Method>
-        ensures args { IfOk result (λ m. deliver_call m ≡ method_view method) }
-        ensures when { IsOk result ↔ ((method_view method).kind ≡ BasicDeliver) }
-        ensures same { IfErr result (λ m. method_view m ≡ method_view method) }
-    {
-        match own_args(method, Kind::BasicDeliver) {
-            Ok(args) => {
-                let taken = five(args);
-                Ok(Deliver {
-                    consumer_tag: short_str(taken.0),
-                    delivery_tag: long_long(taken.1),
-                    redelivered: bit(taken.2),
-                    exchange: short_str(taken.3),
-                    routing_key: short_str(taken.4),
-                })
-            }
-            Err(method) => Err(method),
+    fn of_method(method: Method) -> Deliver {
+        let taken = five(own_args(method, Kind::BasicDeliver));
+        Deliver {
+            consumer_tag: short_str(taken.0),
+            delivery_tag: long_long(taken.1),
+            redelivered: bit(taken.2),
+            exchange: short_str(taken.3),
+            routing_key: short_str(taken.4),
         }
     }
 }
@@ -927,22 +802,19 @@ pub struct DeliverRef<'a> {
     pub routing_key: &'a ShortStr,
 }
 
-impl<'a> DeliverRef<'a> {
-    /// What the method says, if it is this one.
-    pub fn from_method(method: &'a Method) -> Option<DeliverRef<'a>>
-        ensures args { IfSome result (λ m. deliver_ref_call m ≡ method_view method.now) }
-        ensures when { IsSome result ↔ ((method_view method.now).kind ≡ BasicDeliver) }
-    {
-        if !is_kind(method, Kind::BasicDeliver) {
-            return None;
-        }
-        Some(DeliverRef {
+impl<'a> TypedRef<'a> for DeliverRef<'a> {
+    type Of = Deliver;
+
+    ghost lends = { deliver_ref_call };
+
+    fn of_ref(method: &'a Method) -> DeliverRef<'a> {
+        DeliverRef {
             consumer_tag: short_str_at(method, 0),
             delivery_tag: long_long_at(method, 1),
             redelivered: bit_at(method, 2),
             exchange: short_str_at(method, 3),
             routing_key: short_str_at(method, 4),
-        })
+        }
     }
 }
 
@@ -956,23 +828,12 @@ pub struct DeliverView<'a> {
     pub routing_key: &'a [u8],
 }
 
-impl<'a> DeliverView<'a> {
-    /// What the method says, if it is this one.
-    pub fn from_view(method: MethodRef<'a>) -> Option<DeliverView<'a>>
-        ensures args { IfSome result (λ m. deliver_view_call m ≡ lent_call method.entry) }
-        ensures when { IsSome result ↔ ((lent_call method.entry).kind ≡ BasicDeliver) }
-    {
-        if !is_view_of(method, Kind::BasicDeliver) {
-            return None;
-        }
-        Some(DeliverView::of_view(method))
-    }
+impl<'a> TypedView<'a> for DeliverView<'a> {
+    type Of = Deliver;
 
-    /// What a method of this kind says.
-    fn of_view(method: MethodRef<'a>) -> DeliverView<'a>
-        requires { Fits (lent_call method) × ((lent_call method).kind ≡ BasicDeliver) }
-        ensures { deliver_view_call result ≡ lent_call method.entry }
-    {
+    ghost shows = { deliver_view_call };
+
+    fn of_view(method: MethodRef<'a>) -> DeliverView<'a> {
         DeliverView {
             consumer_tag: short_str_in(method, 0),
             delivery_tag: long_long_in(method, 1),
@@ -1001,11 +862,16 @@ impl Get {
             no_ack: false,
         }
     }
+}
 
-    /// The method with these arguments.
-    pub fn into_method(self, alloc: Global) -> Result<Method, OutOfMemory>
-        ensures { IfOk result (λ m. method_view m ≡ get_call self) }
-    {
+impl Typed for Get {
+    ghost KIND = { BasicGet };
+
+    ghost says = { get_call };
+
+    const KIND: Kind = Kind::BasicGet;
+
+    fn into_method(self, alloc: Global) -> Result<Method, OutOfMemory> {
         method_of(
             alloc,
             Kind::BasicGet,
@@ -1013,21 +879,11 @@ impl Get {
         )
     }
 
-    /// What the method says, or the method as it was if it is another.
-    pub fn from_method(method: Method) -> Result<Get, Method>
-        ensures args { IfOk result (λ m. get_call m ≡ method_view method) }
-        ensures when { IsOk result ↔ ((method_view method).kind ≡ BasicGet) }
-        ensures same { IfErr result (λ m. method_view m ≡ method_view method) }
-    {
-        match own_args(method, Kind::BasicGet) {
-            Ok(args) => {
-                let taken = two(args);
-                Ok(Get {
-                    queue: short_str(taken.0),
-                    no_ack: bit(taken.1),
-                })
-            }
-            Err(method) => Err(method),
+    fn of_method(method: Method) -> Get {
+        let taken = two(own_args(method, Kind::BasicGet));
+        Get {
+            queue: short_str(taken.0),
+            no_ack: bit(taken.1),
         }
     }
 }
@@ -1039,19 +895,16 @@ pub struct GetRef<'a> {
     pub no_ack: bool,
 }
 
-impl<'a> GetRef<'a> {
-    /// What the method says, if it is this one.
-    pub fn from_method(method: &'a Method) -> Option<GetRef<'a>>
-        ensures args { IfSome result (λ m. get_ref_call m ≡ method_view method.now) }
-        ensures when { IsSome result ↔ ((method_view method.now).kind ≡ BasicGet) }
-    {
-        if !is_kind(method, Kind::BasicGet) {
-            return None;
-        }
-        Some(GetRef {
+impl<'a> TypedRef<'a> for GetRef<'a> {
+    type Of = Get;
+
+    ghost lends = { get_ref_call };
+
+    fn of_ref(method: &'a Method) -> GetRef<'a> {
+        GetRef {
             queue: short_str_at(method, 0),
             no_ack: bit_at(method, 1),
-        })
+        }
     }
 }
 
@@ -1062,23 +915,12 @@ pub struct GetView<'a> {
     pub no_ack: bool,
 }
 
-impl<'a> GetView<'a> {
-    /// What the method says, if it is this one.
-    pub fn from_view(method: MethodRef<'a>) -> Option<GetView<'a>>
-        ensures args { IfSome result (λ m. get_view_call m ≡ lent_call method.entry) }
-        ensures when { IsSome result ↔ ((lent_call method.entry).kind ≡ BasicGet) }
-    {
-        if !is_view_of(method, Kind::BasicGet) {
-            return None;
-        }
-        Some(GetView::of_view(method))
-    }
+impl<'a> TypedView<'a> for GetView<'a> {
+    type Of = Get;
 
-    /// What a method of this kind says.
-    fn of_view(method: MethodRef<'a>) -> GetView<'a>
-        requires { Fits (lent_call method) × ((lent_call method).kind ≡ BasicGet) }
-        ensures { get_view_call result ≡ lent_call method.entry }
-    {
+    ghost shows = { get_view_call };
+
+    fn of_view(method: MethodRef<'a>) -> GetView<'a> {
         GetView {
             queue: short_str_in(method, 0),
             no_ack: bit_in(method, 1),
@@ -1120,10 +962,28 @@ impl GetOk {
         }
     }
 
-    /// The method with these arguments.
-    pub fn into_method(self, alloc: Global) -> Result<Method, OutOfMemory>
-        ensures { IfOk result (λ m. method_view m ≡ get_ok_call self) }
+    /// The message: the method with these arguments, and the content that follows it.
+    pub fn message(
+        self,
+        alloc: Global,
+        properties: Properties,
+        body: Vec<u8>,
+    ) -> Result<Message, OutOfMemory>
+        ensures { IfOk result (λ m. message_view m
+            ≡ letter_with (get_ok_call self) (properties_view properties) body.items) }
     {
+        content_of(self.into_method(alloc), properties, body)
+    }
+}
+
+impl Typed for GetOk {
+    ghost KIND = { BasicGetOk };
+
+    ghost says = { get_ok_call };
+
+    const KIND: Kind = Kind::BasicGetOk;
+
+    fn into_method(self, alloc: Global) -> Result<Method, OutOfMemory> {
         method_of(
             alloc,
             Kind::BasicGetOk,
@@ -1137,37 +997,14 @@ impl GetOk {
         )
     }
 
-    /// The message: the method with these arguments, and the content that follows it.
-    pub fn message(
-        self,
-        alloc: Global,
-        properties: Properties,
-        body: Vec<u8>,
-    ) -> Result<Message, OutOfMemory>
-        ensures { IfOk result (λ m. message_view m
-            ≡ letter_with (get_ok_call self) (properties_view properties) body.items) }
-    {
-        content_of(self.into_method(alloc), properties, body)
-    }
-
-    /// What the method says, or the method as it was if it is another.
-    pub fn from_method(method: Method) -> Result<GetOk, Method>
-        ensures args { IfOk result (λ m. get_ok_call m ≡ method_view method) }
-        ensures when { IsOk result ↔ ((method_view method).kind ≡ BasicGetOk) }
-        ensures same { IfErr result (λ m. method_view m ≡ method_view method) }
-    {
-        match own_args(method, Kind::BasicGetOk) {
-            Ok(args) => {
-                let taken = five(args);
-                Ok(GetOk {
-                    delivery_tag: long_long(taken.0),
-                    redelivered: bit(taken.1),
-                    exchange: short_str(taken.2),
-                    routing_key: short_str(taken.3),
-                    message_count: long(taken.4),
-                })
-            }
-            Err(method) => Err(method),
+    fn of_method(method: Method) -> GetOk {
+        let taken = five(own_args(method, Kind::BasicGetOk));
+        GetOk {
+            delivery_tag: long_long(taken.0),
+            redelivered: bit(taken.1),
+            exchange: short_str(taken.2),
+            routing_key: short_str(taken.3),
+            message_count: long(taken.4),
         }
     }
 }
@@ -1182,22 +1019,19 @@ pub struct GetOkRef<'a> {
     pub message_count: u32,
 }
 
-impl<'a> GetOkRef<'a> {
-    /// What the method says, if it is this one.
-    pub fn from_method(method: &'a Method) -> Option<GetOkRef<'a>>
-        ensures args { IfSome result (λ m. get_ok_ref_call m ≡ method_view method.now) }
-        ensures when { IsSome result ↔ ((method_view method.now).kind ≡ BasicGetOk) }
-    {
-        if !is_kind(method, Kind::BasicGetOk) {
-            return None;
-        }
-        Some(GetOkRef {
+impl<'a> TypedRef<'a> for GetOkRef<'a> {
+    type Of = GetOk;
+
+    ghost lends = { get_ok_ref_call };
+
+    fn of_ref(method: &'a Method) -> GetOkRef<'a> {
+        GetOkRef {
             delivery_tag: long_long_at(method, 0),
             redelivered: bit_at(method, 1),
             exchange: short_str_at(method, 2),
             routing_key: short_str_at(method, 3),
             message_count: long_at(method, 4),
-        })
+        }
     }
 }
 
@@ -1211,23 +1045,12 @@ pub struct GetOkView<'a> {
     pub message_count: u32,
 }
 
-impl<'a> GetOkView<'a> {
-    /// What the method says, if it is this one.
-    pub fn from_view(method: MethodRef<'a>) -> Option<GetOkView<'a>>
-        ensures args { IfSome result (λ m. get_ok_view_call m ≡ lent_call method.entry) }
-        ensures when { IsSome result ↔ ((lent_call method.entry).kind ≡ BasicGetOk) }
-    {
-        if !is_view_of(method, Kind::BasicGetOk) {
-            return None;
-        }
-        Some(GetOkView::of_view(method))
-    }
+impl<'a> TypedView<'a> for GetOkView<'a> {
+    type Of = GetOk;
 
-    /// What a method of this kind says.
-    fn of_view(method: MethodRef<'a>) -> GetOkView<'a>
-        requires { Fits (lent_call method) × ((lent_call method).kind ≡ BasicGetOk) }
-        ensures { get_ok_view_call result ≡ lent_call method.entry }
-    {
+    ghost shows = { get_ok_view_call };
+
+    fn of_view(method: MethodRef<'a>) -> GetOkView<'a> {
         GetOkView {
             delivery_tag: long_long_in(method, 0),
             redelivered: bit_in(method, 1),
@@ -1260,11 +1083,16 @@ impl Ack {
             multiple: false,
         }
     }
+}
 
-    /// The method with these arguments.
-    pub fn into_method(self, alloc: Global) -> Result<Method, OutOfMemory>
-        ensures { IfOk result (λ m. method_view m ≡ ack_call self) }
-    {
+impl Typed for Ack {
+    ghost KIND = { BasicAck };
+
+    ghost says = { ack_call };
+
+    const KIND: Kind = Kind::BasicAck;
+
+    fn into_method(self, alloc: Global) -> Result<Method, OutOfMemory> {
         method_of(
             alloc,
             Kind::BasicAck,
@@ -1272,44 +1100,34 @@ impl Ack {
         )
     }
 
-    /// What the method says, or the method as it was if it is another.
-    pub fn from_method(method: Method) -> Result<Ack, Method>
-        ensures args { IfOk result (λ m. ack_call m ≡ method_view method) }
-        ensures when { IsOk result ↔ ((method_view method).kind ≡ BasicAck) }
-        ensures same { IfErr result (λ m. method_view m ≡ method_view method) }
-    {
-        match Ack::from_ref(&method) {
-            Some(ack) => Ok(ack),
-            None => Err(method),
-        }
+    fn of_method(method: Method) -> Ack {
+        Ack::of_ref(&method)
     }
+}
 
-    /// What the method says, if it is this one.
-    pub fn from_ref(method: &Method) -> Option<Ack>
-        ensures args { IfSome result (λ m. ack_call m ≡ method_view method.now) }
-        ensures when { IsSome result ↔ ((method_view method.now).kind ≡ BasicAck) }
-    {
-        if !is_kind(method, Kind::BasicAck) {
-            return None;
-        }
-        Some(Ack {
+impl<'a> TypedRef<'a> for Ack {
+    type Of = Ack;
+
+    ghost lends = { ack_call };
+
+    fn of_ref(method: &'a Method) -> Ack {
+        Ack {
             delivery_tag: long_long_at(method, 0),
             multiple: bit_at(method, 1),
-        })
-    }
-
-    /// What the method says, if it is this one.
-    pub fn from_view(method: MethodRef<'_>) -> Option<Ack>
-        ensures args { IfSome result (λ m. ack_call m ≡ lent_call method.entry) }
-        ensures when { IsSome result ↔ ((lent_call method.entry).kind ≡ BasicAck) }
-    {
-        if !is_view_of(method, Kind::BasicAck) {
-            return None;
         }
-        Some(Ack {
+    }
+}
+
+impl<'a> TypedView<'a> for Ack {
+    type Of = Ack;
+
+    ghost shows = { ack_call };
+
+    fn of_view(method: MethodRef<'a>) -> Ack {
+        Ack {
             delivery_tag: long_long_in(method, 0),
             multiple: bit_in(method, 1),
-        })
+        }
     }
 }
 
@@ -1332,11 +1150,16 @@ impl Reject {
             requeue: false,
         }
     }
+}
 
-    /// The method with these arguments.
-    pub fn into_method(self, alloc: Global) -> Result<Method, OutOfMemory>
-        ensures { IfOk result (λ m. method_view m ≡ reject_call self) }
-    {
+impl Typed for Reject {
+    ghost KIND = { BasicReject };
+
+    ghost says = { reject_call };
+
+    const KIND: Kind = Kind::BasicReject;
+
+    fn into_method(self, alloc: Global) -> Result<Method, OutOfMemory> {
         method_of(
             alloc,
             Kind::BasicReject,
@@ -1344,44 +1167,34 @@ impl Reject {
         )
     }
 
-    /// What the method says, or the method as it was if it is another.
-    pub fn from_method(method: Method) -> Result<Reject, Method>
-        ensures args { IfOk result (λ m. reject_call m ≡ method_view method) }
-        ensures when { IsOk result ↔ ((method_view method).kind ≡ BasicReject) }
-        ensures same { IfErr result (λ m. method_view m ≡ method_view method) }
-    {
-        match Reject::from_ref(&method) {
-            Some(reject) => Ok(reject),
-            None => Err(method),
-        }
+    fn of_method(method: Method) -> Reject {
+        Reject::of_ref(&method)
     }
+}
 
-    /// What the method says, if it is this one.
-    pub fn from_ref(method: &Method) -> Option<Reject>
-        ensures args { IfSome result (λ m. reject_call m ≡ method_view method.now) }
-        ensures when { IsSome result ↔ ((method_view method.now).kind ≡ BasicReject) }
-    {
-        if !is_kind(method, Kind::BasicReject) {
-            return None;
-        }
-        Some(Reject {
+impl<'a> TypedRef<'a> for Reject {
+    type Of = Reject;
+
+    ghost lends = { reject_call };
+
+    fn of_ref(method: &'a Method) -> Reject {
+        Reject {
             delivery_tag: long_long_at(method, 0),
             requeue: bit_at(method, 1),
-        })
-    }
-
-    /// What the method says, if it is this one.
-    pub fn from_view(method: MethodRef<'_>) -> Option<Reject>
-        ensures args { IfSome result (λ m. reject_call m ≡ lent_call method.entry) }
-        ensures when { IsSome result ↔ ((lent_call method.entry).kind ≡ BasicReject) }
-    {
-        if !is_view_of(method, Kind::BasicReject) {
-            return None;
         }
-        Some(Reject {
+    }
+}
+
+impl<'a> TypedView<'a> for Reject {
+    type Of = Reject;
+
+    ghost shows = { reject_call };
+
+    fn of_view(method: MethodRef<'a>) -> Reject {
+        Reject {
             delivery_tag: long_long_in(method, 0),
             requeue: bit_in(method, 1),
-        })
+        }
     }
 }
 
@@ -1399,50 +1212,45 @@ impl RecoverAsync {
     {
         RecoverAsync { requeue: false }
     }
+}
 
-    /// The method with these arguments.
-    pub fn into_method(self, alloc: Global) -> Result<Method, OutOfMemory>
-        ensures { IfOk result (λ m. method_view m ≡ recover_async_call self) }
-    {
+impl Typed for RecoverAsync {
+    ghost KIND = { BasicRecoverAsync };
+
+    ghost says = { recover_async_call };
+
+    const KIND: Kind = Kind::BasicRecoverAsync;
+
+    fn into_method(self, alloc: Global) -> Result<Method, OutOfMemory> {
         method_of(alloc, Kind::BasicRecoverAsync, [Arg::Bit(self.requeue)])
     }
 
-    /// What the method says, or the method as it was if it is another.
-    pub fn from_method(method: Method) -> Result<RecoverAsync, Method>
-        ensures args { IfOk result (λ m. recover_async_call m ≡ method_view method) }
-        ensures when { IsOk result ↔ ((method_view method).kind ≡ BasicRecoverAsync) }
-        ensures same { IfErr result (λ m. method_view m ≡ method_view method) }
-    {
-        match RecoverAsync::from_ref(&method) {
-            Some(recover_async) => Ok(recover_async),
-            None => Err(method),
-        }
+    fn of_method(method: Method) -> RecoverAsync {
+        RecoverAsync::of_ref(&method)
     }
+}
 
-    /// What the method says, if it is this one.
-    pub fn from_ref(method: &Method) -> Option<RecoverAsync>
-        ensures args { IfSome result (λ m. recover_async_call m ≡ method_view method.now) }
-        ensures when { IsSome result ↔ ((method_view method.now).kind ≡ BasicRecoverAsync) }
-    {
-        if !is_kind(method, Kind::BasicRecoverAsync) {
-            return None;
-        }
-        Some(RecoverAsync {
+impl<'a> TypedRef<'a> for RecoverAsync {
+    type Of = RecoverAsync;
+
+    ghost lends = { recover_async_call };
+
+    fn of_ref(method: &'a Method) -> RecoverAsync {
+        RecoverAsync {
             requeue: bit_at(method, 0),
-        })
-    }
-
-    /// What the method says, if it is this one.
-    pub fn from_view(method: MethodRef<'_>) -> Option<RecoverAsync>
-        ensures args { IfSome result (λ m. recover_async_call m ≡ lent_call method.entry) }
-        ensures when { IsSome result ↔ ((lent_call method.entry).kind ≡ BasicRecoverAsync) }
-    {
-        if !is_view_of(method, Kind::BasicRecoverAsync) {
-            return None;
         }
-        Some(RecoverAsync {
+    }
+}
+
+impl<'a> TypedView<'a> for RecoverAsync {
+    type Of = RecoverAsync;
+
+    ghost shows = { recover_async_call };
+
+    fn of_view(method: MethodRef<'a>) -> RecoverAsync {
+        RecoverAsync {
             requeue: bit_in(method, 0),
-        })
+        }
     }
 }
 
@@ -1460,50 +1268,45 @@ impl Recover {
     {
         Recover { requeue: false }
     }
+}
 
-    /// The method with these arguments.
-    pub fn into_method(self, alloc: Global) -> Result<Method, OutOfMemory>
-        ensures { IfOk result (λ m. method_view m ≡ recover_call self) }
-    {
+impl Typed for Recover {
+    ghost KIND = { BasicRecover };
+
+    ghost says = { recover_call };
+
+    const KIND: Kind = Kind::BasicRecover;
+
+    fn into_method(self, alloc: Global) -> Result<Method, OutOfMemory> {
         method_of(alloc, Kind::BasicRecover, [Arg::Bit(self.requeue)])
     }
 
-    /// What the method says, or the method as it was if it is another.
-    pub fn from_method(method: Method) -> Result<Recover, Method>
-        ensures args { IfOk result (λ m. recover_call m ≡ method_view method) }
-        ensures when { IsOk result ↔ ((method_view method).kind ≡ BasicRecover) }
-        ensures same { IfErr result (λ m. method_view m ≡ method_view method) }
-    {
-        match Recover::from_ref(&method) {
-            Some(recover) => Ok(recover),
-            None => Err(method),
-        }
+    fn of_method(method: Method) -> Recover {
+        Recover::of_ref(&method)
     }
+}
 
-    /// What the method says, if it is this one.
-    pub fn from_ref(method: &Method) -> Option<Recover>
-        ensures args { IfSome result (λ m. recover_call m ≡ method_view method.now) }
-        ensures when { IsSome result ↔ ((method_view method.now).kind ≡ BasicRecover) }
-    {
-        if !is_kind(method, Kind::BasicRecover) {
-            return None;
-        }
-        Some(Recover {
+impl<'a> TypedRef<'a> for Recover {
+    type Of = Recover;
+
+    ghost lends = { recover_call };
+
+    fn of_ref(method: &'a Method) -> Recover {
+        Recover {
             requeue: bit_at(method, 0),
-        })
-    }
-
-    /// What the method says, if it is this one.
-    pub fn from_view(method: MethodRef<'_>) -> Option<Recover>
-        ensures args { IfSome result (λ m. recover_call m ≡ lent_call method.entry) }
-        ensures when { IsSome result ↔ ((lent_call method.entry).kind ≡ BasicRecover) }
-    {
-        if !is_view_of(method, Kind::BasicRecover) {
-            return None;
         }
-        Some(Recover {
+    }
+}
+
+impl<'a> TypedView<'a> for Recover {
+    type Of = Recover;
+
+    ghost shows = { recover_call };
+
+    fn of_view(method: MethodRef<'a>) -> Recover {
+        Recover {
             requeue: bit_in(method, 0),
-        })
+        }
     }
 }
 
@@ -1533,11 +1336,16 @@ impl Nack {
             requeue: false,
         }
     }
+}
 
-    /// The method with these arguments.
-    pub fn into_method(self, alloc: Global) -> Result<Method, OutOfMemory>
-        ensures { IfOk result (λ m. method_view m ≡ nack_call self) }
-    {
+impl Typed for Nack {
+    ghost KIND = { BasicNack };
+
+    ghost says = { nack_call };
+
+    const KIND: Kind = Kind::BasicNack;
+
+    fn into_method(self, alloc: Global) -> Result<Method, OutOfMemory> {
         method_of(
             alloc,
             Kind::BasicNack,
@@ -1549,46 +1357,36 @@ impl Nack {
         )
     }
 
-    /// What the method says, or the method as it was if it is another.
-    pub fn from_method(method: Method) -> Result<Nack, Method>
-        ensures args { IfOk result (λ m. nack_call m ≡ method_view method) }
-        ensures when { IsOk result ↔ ((method_view method).kind ≡ BasicNack) }
-        ensures same { IfErr result (λ m. method_view m ≡ method_view method) }
-    {
-        match Nack::from_ref(&method) {
-            Some(nack) => Ok(nack),
-            None => Err(method),
-        }
+    fn of_method(method: Method) -> Nack {
+        Nack::of_ref(&method)
     }
+}
 
-    /// What the method says, if it is this one.
-    pub fn from_ref(method: &Method) -> Option<Nack>
-        ensures args { IfSome result (λ m. nack_call m ≡ method_view method.now) }
-        ensures when { IsSome result ↔ ((method_view method.now).kind ≡ BasicNack) }
-    {
-        if !is_kind(method, Kind::BasicNack) {
-            return None;
-        }
-        Some(Nack {
+impl<'a> TypedRef<'a> for Nack {
+    type Of = Nack;
+
+    ghost lends = { nack_call };
+
+    fn of_ref(method: &'a Method) -> Nack {
+        Nack {
             delivery_tag: long_long_at(method, 0),
             multiple: bit_at(method, 1),
             requeue: bit_at(method, 2),
-        })
-    }
-
-    /// What the method says, if it is this one.
-    pub fn from_view(method: MethodRef<'_>) -> Option<Nack>
-        ensures args { IfSome result (λ m. nack_call m ≡ lent_call method.entry) }
-        ensures when { IsSome result ↔ ((lent_call method.entry).kind ≡ BasicNack) }
-    {
-        if !is_view_of(method, Kind::BasicNack) {
-            return None;
         }
-        Some(Nack {
+    }
+}
+
+impl<'a> TypedView<'a> for Nack {
+    type Of = Nack;
+
+    ghost shows = { nack_call };
+
+    fn of_view(method: MethodRef<'a>) -> Nack {
+        Nack {
             delivery_tag: long_long_in(method, 0),
             multiple: bit_in(method, 1),
             requeue: bit_in(method, 2),
-        })
+        }
     }
 }
 
@@ -1647,26 +1445,24 @@ impl AnyMethod {
         ensures { any_call result ≡ method_view method }
     {
         match method.kind() {
-            Kind::BasicQos => AnyMethod::Qos(Qos::from_method(method).unwrap()),
+            Kind::BasicQos => AnyMethod::Qos(Qos::of_method(method)),
             Kind::BasicQosOk => AnyMethod::QosOk(QosOk::of_method(method)),
-            Kind::BasicConsume => AnyMethod::Consume(Consume::from_method(method).unwrap()),
-            Kind::BasicConsumeOk => AnyMethod::ConsumeOk(ConsumeOk::from_method(method).unwrap()),
-            Kind::BasicCancel => AnyMethod::Cancel(Cancel::from_method(method).unwrap()),
-            Kind::BasicCancelOk => AnyMethod::CancelOk(CancelOk::from_method(method).unwrap()),
-            Kind::BasicPublish => AnyMethod::Publish(Publish::from_method(method).unwrap()),
-            Kind::BasicReturn => AnyMethod::Return(Return::from_method(method).unwrap()),
-            Kind::BasicDeliver => AnyMethod::Deliver(Deliver::from_method(method).unwrap()),
-            Kind::BasicGet => AnyMethod::Get(Get::from_method(method).unwrap()),
-            Kind::BasicGetOk => AnyMethod::GetOk(GetOk::from_method(method).unwrap()),
+            Kind::BasicConsume => AnyMethod::Consume(Consume::of_method(method)),
+            Kind::BasicConsumeOk => AnyMethod::ConsumeOk(ConsumeOk::of_method(method)),
+            Kind::BasicCancel => AnyMethod::Cancel(Cancel::of_method(method)),
+            Kind::BasicCancelOk => AnyMethod::CancelOk(CancelOk::of_method(method)),
+            Kind::BasicPublish => AnyMethod::Publish(Publish::of_method(method)),
+            Kind::BasicReturn => AnyMethod::Return(Return::of_method(method)),
+            Kind::BasicDeliver => AnyMethod::Deliver(Deliver::of_method(method)),
+            Kind::BasicGet => AnyMethod::Get(Get::of_method(method)),
+            Kind::BasicGetOk => AnyMethod::GetOk(GetOk::of_method(method)),
             Kind::BasicGetEmpty => AnyMethod::GetEmpty(GetEmpty::of_method(method)),
-            Kind::BasicAck => AnyMethod::Ack(Ack::from_method(method).unwrap()),
-            Kind::BasicReject => AnyMethod::Reject(Reject::from_method(method).unwrap()),
-            Kind::BasicRecoverAsync => {
-                AnyMethod::RecoverAsync(RecoverAsync::from_method(method).unwrap())
-            }
-            Kind::BasicRecover => AnyMethod::Recover(Recover::from_method(method).unwrap()),
+            Kind::BasicAck => AnyMethod::Ack(Ack::of_method(method)),
+            Kind::BasicReject => AnyMethod::Reject(Reject::of_method(method)),
+            Kind::BasicRecoverAsync => AnyMethod::RecoverAsync(RecoverAsync::of_method(method)),
+            Kind::BasicRecover => AnyMethod::Recover(Recover::of_method(method)),
             Kind::BasicRecoverOk => AnyMethod::RecoverOk(RecoverOk::of_method(method)),
-            Kind::BasicNack => AnyMethod::Nack(Nack::from_method(method).unwrap()),
+            Kind::BasicNack => AnyMethod::Nack(Nack::of_method(method)),
             _ => unreachable!(),
         }
     }
@@ -1779,7 +1575,7 @@ impl<'a> AnyMethodView<'a> {
         ensures { any_view_call result ≡ lent_call method.entry }
     {
         match kind_in(method) {
-            Kind::BasicQos => AnyMethodView::Qos(Qos::from_view(method).unwrap()),
+            Kind::BasicQos => AnyMethodView::Qos(Qos::of_view(method)),
             Kind::BasicQosOk => AnyMethodView::QosOk(QosOk::of_view(method)),
             Kind::BasicConsume => AnyMethodView::Consume(ConsumeView::of_view(method)),
             Kind::BasicConsumeOk => AnyMethodView::ConsumeOk(ConsumeOkView::of_view(method)),
@@ -1791,14 +1587,12 @@ impl<'a> AnyMethodView<'a> {
             Kind::BasicGet => AnyMethodView::Get(GetView::of_view(method)),
             Kind::BasicGetOk => AnyMethodView::GetOk(GetOkView::of_view(method)),
             Kind::BasicGetEmpty => AnyMethodView::GetEmpty(GetEmpty::of_view(method)),
-            Kind::BasicAck => AnyMethodView::Ack(Ack::from_view(method).unwrap()),
-            Kind::BasicReject => AnyMethodView::Reject(Reject::from_view(method).unwrap()),
-            Kind::BasicRecoverAsync => {
-                AnyMethodView::RecoverAsync(RecoverAsync::from_view(method).unwrap())
-            }
-            Kind::BasicRecover => AnyMethodView::Recover(Recover::from_view(method).unwrap()),
+            Kind::BasicAck => AnyMethodView::Ack(Ack::of_view(method)),
+            Kind::BasicReject => AnyMethodView::Reject(Reject::of_view(method)),
+            Kind::BasicRecoverAsync => AnyMethodView::RecoverAsync(RecoverAsync::of_view(method)),
+            Kind::BasicRecover => AnyMethodView::Recover(Recover::of_view(method)),
             Kind::BasicRecoverOk => AnyMethodView::RecoverOk(RecoverOk::of_view(method)),
-            Kind::BasicNack => AnyMethodView::Nack(Nack::from_view(method).unwrap()),
+            Kind::BasicNack => AnyMethodView::Nack(Nack::of_view(method)),
             _ => unreachable!(),
         }
     }

@@ -1,19 +1,18 @@
 //! The methods of the class channel (`amqp0-9-1.xml`, class 20).
 // Written by `tools/typed_methods.py` from the table of methods in `docs/PROTOCOL.md`: change those and run it again.
-ghost use Rattle.std.specs.Prelude.{◌≡◌, ◌↔◌, IfOk, IfErr, IfSome, IsOk, IsSome, ◌∷◌, []};
-ghost use Rattle.amqp_method.specs.Arguments.{call, Fits, bit, short, short_string};
+ghost use Rattle.std.specs.Prelude.{◌≡◌, IfOk, ◌∷◌, []};
+ghost use Rattle.amqp_method.specs.Arguments.{call, bit, short, short_string};
 ghost use Rattle.amqp_method.specs.MethodRefView.{lent_call};
 ghost use Rattle.amqp_method.specs.MethodView.{method_view};
 ghost use Rattle.amqp_method.specs.Methods.{row};
 ghost use Rattle.amqp_method.specs.declared.kinds.Kind.TheVariants.{ChannelFlow, ChannelFlowOk, ChannelClose};
 ghost use Rattle.amqp_typed.specs.Channel.{flow_call, flow_ok_call, close_call, close_ref_call, close_view_call, any_call, any_view_call};
 
-use crate::args::{
-    bit_at, four, is_kind, method_of, own_args, short, short_at, short_str, short_str_at,
-};
+use crate::args::{bit_at, four, method_of, own_args, short, short_at, short_str, short_str_at};
 use crate::bare::Bare;
 use crate::bare_kinds::{ChannelCloseOk, ChannelOpen, ChannelOpenOk};
-use crate::views::{bit_in, is_view_of, kind_in, short_in, short_str_in};
+use crate::typed::{Typed, TypedRef, TypedView};
+use crate::views::{bit_in, kind_in, short_in, short_str_in};
 use amqp_method::{Arg, Kind, Method, MethodRef, OutOfMemory};
 use amqp_value::ShortStr;
 use std::alloc::Global;
@@ -39,50 +38,45 @@ impl Flow {
     {
         Flow { active }
     }
+}
 
-    /// The method with these arguments.
-    pub fn into_method(self, alloc: Global) -> Result<Method, OutOfMemory>
-        ensures { IfOk result (λ m. method_view m ≡ flow_call self) }
-    {
+impl Typed for Flow {
+    ghost KIND = { ChannelFlow };
+
+    ghost says = { flow_call };
+
+    const KIND: Kind = Kind::ChannelFlow;
+
+    fn into_method(self, alloc: Global) -> Result<Method, OutOfMemory> {
         method_of(alloc, Kind::ChannelFlow, [Arg::Bit(self.active)])
     }
 
-    /// What the method says, or the method as it was if it is another.
-    pub fn from_method(method: Method) -> Result<Flow, Method>
-        ensures args { IfOk result (λ m. flow_call m ≡ method_view method) }
-        ensures when { IsOk result ↔ ((method_view method).kind ≡ ChannelFlow) }
-        ensures same { IfErr result (λ m. method_view m ≡ method_view method) }
-    {
-        match Flow::from_ref(&method) {
-            Some(flow) => Ok(flow),
-            None => Err(method),
-        }
+    fn of_method(method: Method) -> Flow {
+        Flow::of_ref(&method)
     }
+}
 
-    /// What the method says, if it is this one.
-    pub fn from_ref(method: &Method) -> Option<Flow>
-        ensures args { IfSome result (λ m. flow_call m ≡ method_view method.now) }
-        ensures when { IsSome result ↔ ((method_view method.now).kind ≡ ChannelFlow) }
-    {
-        if !is_kind(method, Kind::ChannelFlow) {
-            return None;
-        }
-        Some(Flow {
+impl<'a> TypedRef<'a> for Flow {
+    type Of = Flow;
+
+    ghost lends = { flow_call };
+
+    fn of_ref(method: &'a Method) -> Flow {
+        Flow {
             active: bit_at(method, 0),
-        })
-    }
-
-    /// What the method says, if it is this one.
-    pub fn from_view(method: MethodRef<'_>) -> Option<Flow>
-        ensures args { IfSome result (λ m. flow_call m ≡ lent_call method.entry) }
-        ensures when { IsSome result ↔ ((lent_call method.entry).kind ≡ ChannelFlow) }
-    {
-        if !is_view_of(method, Kind::ChannelFlow) {
-            return None;
         }
-        Some(Flow {
+    }
+}
+
+impl<'a> TypedView<'a> for Flow {
+    type Of = Flow;
+
+    ghost shows = { flow_call };
+
+    fn of_view(method: MethodRef<'a>) -> Flow {
+        Flow {
             active: bit_in(method, 0),
-        })
+        }
     }
 }
 
@@ -100,50 +94,45 @@ impl FlowOk {
     {
         FlowOk { active }
     }
+}
 
-    /// The method with these arguments.
-    pub fn into_method(self, alloc: Global) -> Result<Method, OutOfMemory>
-        ensures { IfOk result (λ m. method_view m ≡ flow_ok_call self) }
-    {
+impl Typed for FlowOk {
+    ghost KIND = { ChannelFlowOk };
+
+    ghost says = { flow_ok_call };
+
+    const KIND: Kind = Kind::ChannelFlowOk;
+
+    fn into_method(self, alloc: Global) -> Result<Method, OutOfMemory> {
         method_of(alloc, Kind::ChannelFlowOk, [Arg::Bit(self.active)])
     }
 
-    /// What the method says, or the method as it was if it is another.
-    pub fn from_method(method: Method) -> Result<FlowOk, Method>
-        ensures args { IfOk result (λ m. flow_ok_call m ≡ method_view method) }
-        ensures when { IsOk result ↔ ((method_view method).kind ≡ ChannelFlowOk) }
-        ensures same { IfErr result (λ m. method_view m ≡ method_view method) }
-    {
-        match FlowOk::from_ref(&method) {
-            Some(flow_ok) => Ok(flow_ok),
-            None => Err(method),
-        }
+    fn of_method(method: Method) -> FlowOk {
+        FlowOk::of_ref(&method)
     }
+}
 
-    /// What the method says, if it is this one.
-    pub fn from_ref(method: &Method) -> Option<FlowOk>
-        ensures args { IfSome result (λ m. flow_ok_call m ≡ method_view method.now) }
-        ensures when { IsSome result ↔ ((method_view method.now).kind ≡ ChannelFlowOk) }
-    {
-        if !is_kind(method, Kind::ChannelFlowOk) {
-            return None;
-        }
-        Some(FlowOk {
+impl<'a> TypedRef<'a> for FlowOk {
+    type Of = FlowOk;
+
+    ghost lends = { flow_ok_call };
+
+    fn of_ref(method: &'a Method) -> FlowOk {
+        FlowOk {
             active: bit_at(method, 0),
-        })
-    }
-
-    /// What the method says, if it is this one.
-    pub fn from_view(method: MethodRef<'_>) -> Option<FlowOk>
-        ensures args { IfSome result (λ m. flow_ok_call m ≡ lent_call method.entry) }
-        ensures when { IsSome result ↔ ((lent_call method.entry).kind ≡ ChannelFlowOk) }
-    {
-        if !is_view_of(method, Kind::ChannelFlowOk) {
-            return None;
         }
-        Some(FlowOk {
+    }
+}
+
+impl<'a> TypedView<'a> for FlowOk {
+    type Of = FlowOk;
+
+    ghost shows = { flow_ok_call };
+
+    fn of_view(method: MethodRef<'a>) -> FlowOk {
+        FlowOk {
             active: bit_in(method, 0),
-        })
+        }
     }
 }
 
@@ -171,11 +160,16 @@ impl Close {
             method_id: 0,
         }
     }
+}
 
-    /// The method with these arguments.
-    pub fn into_method(self, alloc: Global) -> Result<Method, OutOfMemory>
-        ensures { IfOk result (λ m. method_view m ≡ close_call self) }
-    {
+impl Typed for Close {
+    ghost KIND = { ChannelClose };
+
+    ghost says = { close_call };
+
+    const KIND: Kind = Kind::ChannelClose;
+
+    fn into_method(self, alloc: Global) -> Result<Method, OutOfMemory> {
         method_of(
             alloc,
             Kind::ChannelClose,
@@ -188,23 +182,13 @@ impl Close {
         )
     }
 
-    /// What the method says, or the method as it was if it is another.
-    pub fn from_method(method: Method) -> Result<Close, Method>
-        ensures args { IfOk result (λ m. close_call m ≡ method_view method) }
-        ensures when { IsOk result ↔ ((method_view method).kind ≡ ChannelClose) }
-        ensures same { IfErr result (λ m. method_view m ≡ method_view method) }
-    {
-        match own_args(method, Kind::ChannelClose) {
-            Ok(args) => {
-                let taken = four(args);
-                Ok(Close {
-                    reply_code: short(taken.0),
-                    reply_text: short_str(taken.1),
-                    class_id: short(taken.2),
-                    method_id: short(taken.3),
-                })
-            }
-            Err(method) => Err(method),
+    fn of_method(method: Method) -> Close {
+        let taken = four(own_args(method, Kind::ChannelClose));
+        Close {
+            reply_code: short(taken.0),
+            reply_text: short_str(taken.1),
+            class_id: short(taken.2),
+            method_id: short(taken.3),
         }
     }
 }
@@ -218,21 +202,18 @@ pub struct CloseRef<'a> {
     pub method_id: u16,
 }
 
-impl<'a> CloseRef<'a> {
-    /// What the method says, if it is this one.
-    pub fn from_method(method: &'a Method) -> Option<CloseRef<'a>>
-        ensures args { IfSome result (λ m. close_ref_call m ≡ method_view method.now) }
-        ensures when { IsSome result ↔ ((method_view method.now).kind ≡ ChannelClose) }
-    {
-        if !is_kind(method, Kind::ChannelClose) {
-            return None;
-        }
-        Some(CloseRef {
+impl<'a> TypedRef<'a> for CloseRef<'a> {
+    type Of = Close;
+
+    ghost lends = { close_ref_call };
+
+    fn of_ref(method: &'a Method) -> CloseRef<'a> {
+        CloseRef {
             reply_code: short_at(method, 0),
             reply_text: short_str_at(method, 1),
             class_id: short_at(method, 2),
             method_id: short_at(method, 3),
-        })
+        }
     }
 }
 
@@ -245,23 +226,12 @@ pub struct CloseView<'a> {
     pub method_id: u16,
 }
 
-impl<'a> CloseView<'a> {
-    /// What the method says, if it is this one.
-    pub fn from_view(method: MethodRef<'a>) -> Option<CloseView<'a>>
-        ensures args { IfSome result (λ m. close_view_call m ≡ lent_call method.entry) }
-        ensures when { IsSome result ↔ ((lent_call method.entry).kind ≡ ChannelClose) }
-    {
-        if !is_view_of(method, Kind::ChannelClose) {
-            return None;
-        }
-        Some(CloseView::of_view(method))
-    }
+impl<'a> TypedView<'a> for CloseView<'a> {
+    type Of = Close;
 
-    /// What a method of this kind says.
-    fn of_view(method: MethodRef<'a>) -> CloseView<'a>
-        requires { Fits (lent_call method) × ((lent_call method).kind ≡ ChannelClose) }
-        ensures { close_view_call result ≡ lent_call method.entry }
-    {
+    ghost shows = { close_view_call };
+
+    fn of_view(method: MethodRef<'a>) -> CloseView<'a> {
         CloseView {
             reply_code: short_in(method, 0),
             reply_text: short_str_in(method, 1),
@@ -307,9 +277,9 @@ impl AnyMethod {
         match method.kind() {
             Kind::ChannelOpen => AnyMethod::Open(Open::of_method(method)),
             Kind::ChannelOpenOk => AnyMethod::OpenOk(OpenOk::of_method(method)),
-            Kind::ChannelFlow => AnyMethod::Flow(Flow::from_method(method).unwrap()),
-            Kind::ChannelFlowOk => AnyMethod::FlowOk(FlowOk::from_method(method).unwrap()),
-            Kind::ChannelClose => AnyMethod::Close(Close::from_method(method).unwrap()),
+            Kind::ChannelFlow => AnyMethod::Flow(Flow::of_method(method)),
+            Kind::ChannelFlowOk => AnyMethod::FlowOk(FlowOk::of_method(method)),
+            Kind::ChannelClose => AnyMethod::Close(Close::of_method(method)),
             Kind::ChannelCloseOk => AnyMethod::CloseOk(CloseOk::of_method(method)),
             _ => unreachable!(),
         }
@@ -377,8 +347,8 @@ impl<'a> AnyMethodView<'a> {
         match kind_in(method) {
             Kind::ChannelOpen => AnyMethodView::Open(Open::of_view(method)),
             Kind::ChannelOpenOk => AnyMethodView::OpenOk(OpenOk::of_view(method)),
-            Kind::ChannelFlow => AnyMethodView::Flow(Flow::from_view(method).unwrap()),
-            Kind::ChannelFlowOk => AnyMethodView::FlowOk(FlowOk::from_view(method).unwrap()),
+            Kind::ChannelFlow => AnyMethodView::Flow(Flow::of_view(method)),
+            Kind::ChannelFlowOk => AnyMethodView::FlowOk(FlowOk::of_view(method)),
             Kind::ChannelClose => AnyMethodView::Close(CloseView::of_view(method)),
             Kind::ChannelCloseOk => AnyMethodView::CloseOk(CloseOk::of_view(method)),
             _ => unreachable!(),

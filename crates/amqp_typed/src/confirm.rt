@@ -1,6 +1,6 @@
 //! The methods of the class confirm (`amqp0-9-1.xml`, class 85).
 // Written by `tools/typed_methods.py` from the table of methods in `docs/PROTOCOL.md`: change those and run it again.
-ghost use Rattle.std.specs.Prelude.{◌≡◌, ◌↔◌, IfOk, IfErr, IfSome, IsOk, IsSome, false, ◌∷◌, []};
+ghost use Rattle.std.specs.Prelude.{◌≡◌, IfOk, false, ◌∷◌, []};
 ghost use Rattle.amqp_method.specs.Arguments.{call, bit};
 ghost use Rattle.amqp_method.specs.MethodRefView.{lent_call};
 ghost use Rattle.amqp_method.specs.MethodView.{method_view};
@@ -8,10 +8,11 @@ ghost use Rattle.amqp_method.specs.Methods.{row};
 ghost use Rattle.amqp_method.specs.declared.kinds.Kind.TheVariants.{ConfirmSelect};
 ghost use Rattle.amqp_typed.specs.Confirm.{select_call, any_call};
 
-use crate::args::{bit_at, is_kind, method_of};
+use crate::args::{bit_at, method_of};
 use crate::bare::Bare;
 use crate::bare_kinds::ConfirmSelectOk;
-use crate::views::{bit_in, is_view_of};
+use crate::typed::{Typed, TypedRef, TypedView};
+use crate::views::{bit_in, kind_in};
 use amqp_method::{Arg, Kind, Method, MethodRef, OutOfMemory};
 use std::alloc::Global;
 use std::fmt;
@@ -30,50 +31,45 @@ impl Select {
     {
         Select { no_wait: false }
     }
+}
 
-    /// The method with these arguments.
-    pub fn into_method(self, alloc: Global) -> Result<Method, OutOfMemory>
-        ensures { IfOk result (λ m. method_view m ≡ select_call self) }
-    {
+impl Typed for Select {
+    ghost KIND = { ConfirmSelect };
+
+    ghost says = { select_call };
+
+    const KIND: Kind = Kind::ConfirmSelect;
+
+    fn into_method(self, alloc: Global) -> Result<Method, OutOfMemory> {
         method_of(alloc, Kind::ConfirmSelect, [Arg::Bit(self.no_wait)])
     }
 
-    /// What the method says, or the method as it was if it is another.
-    pub fn from_method(method: Method) -> Result<Select, Method>
-        ensures args { IfOk result (λ m. select_call m ≡ method_view method) }
-        ensures when { IsOk result ↔ ((method_view method).kind ≡ ConfirmSelect) }
-        ensures same { IfErr result (λ m. method_view m ≡ method_view method) }
-    {
-        match Select::from_ref(&method) {
-            Some(select) => Ok(select),
-            None => Err(method),
-        }
+    fn of_method(method: Method) -> Select {
+        Select::of_ref(&method)
     }
+}
 
-    /// What the method says, if it is this one.
-    pub fn from_ref(method: &Method) -> Option<Select>
-        ensures args { IfSome result (λ m. select_call m ≡ method_view method.now) }
-        ensures when { IsSome result ↔ ((method_view method.now).kind ≡ ConfirmSelect) }
-    {
-        if !is_kind(method, Kind::ConfirmSelect) {
-            return None;
-        }
-        Some(Select {
+impl<'a> TypedRef<'a> for Select {
+    type Of = Select;
+
+    ghost lends = { select_call };
+
+    fn of_ref(method: &'a Method) -> Select {
+        Select {
             no_wait: bit_at(method, 0),
-        })
-    }
-
-    /// What the method says, if it is this one.
-    pub fn from_view(method: MethodRef<'_>) -> Option<Select>
-        ensures args { IfSome result (λ m. select_call m ≡ lent_call method.entry) }
-        ensures when { IsSome result ↔ ((lent_call method.entry).kind ≡ ConfirmSelect) }
-    {
-        if !is_view_of(method, Kind::ConfirmSelect) {
-            return None;
         }
-        Some(Select {
+    }
+}
+
+impl<'a> TypedView<'a> for Select {
+    type Of = Select;
+
+    ghost shows = { select_call };
+
+    fn of_view(method: MethodRef<'a>) -> Select {
+        Select {
             no_wait: bit_in(method, 0),
-        })
+        }
     }
 }
 
@@ -103,7 +99,7 @@ impl AnyMethod {
         ensures { any_call result ≡ method_view method }
     {
         match method.kind() {
-            Kind::ConfirmSelect => AnyMethod::Select(Select::from_method(method).unwrap()),
+            Kind::ConfirmSelect => AnyMethod::Select(Select::of_method(method)),
             Kind::ConfirmSelectOk => AnyMethod::SelectOk(SelectOk::of_method(method)),
             _ => unreachable!(),
         }
@@ -124,8 +120,8 @@ impl AnyMethod {
         requires { (row (lent_call method).kind).class ≡ 85 }
         ensures { any_call result ≡ lent_call method.entry }
     {
-        match method.kind() {
-            Kind::ConfirmSelect => AnyMethod::Select(Select::from_view(method).unwrap()),
+        match kind_in(method) {
+            Kind::ConfirmSelect => AnyMethod::Select(Select::of_view(method)),
             Kind::ConfirmSelectOk => AnyMethod::SelectOk(SelectOk::of_view(method)),
             _ => unreachable!(),
         }

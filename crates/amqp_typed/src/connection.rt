@@ -1,8 +1,8 @@
 //! The methods of the class connection (`amqp0-9-1.xml`, class 10).
 // Written by `tools/typed_methods.py` from the table of methods in `docs/PROTOCOL.md`: change those and run it again.
-ghost use Rattle.std.specs.Prelude.{◌≡◌, ◌↔◌, IfOk, IfErr, IfSome, IsOk, IsSome, ◌∷◌, []};
+ghost use Rattle.std.specs.Prelude.{◌≡◌, IfOk, ◌∷◌, []};
 ghost use Rattle.amqp_value.specs.Values.{no_pairs};
-ghost use Rattle.amqp_method.specs.Arguments.{call, Fits, octet, short, long, short_string, long_string, table};
+ghost use Rattle.amqp_method.specs.Arguments.{call, octet, short, long, short_string, long_string, table};
 ghost use Rattle.amqp_method.specs.MethodRefView.{lent_call};
 ghost use Rattle.amqp_method.specs.MethodView.{method_view};
 ghost use Rattle.amqp_method.specs.Methods.{row};
@@ -10,14 +10,13 @@ ghost use Rattle.amqp_method.specs.declared.kinds.Kind.TheVariants.{ConnectionSt
 ghost use Rattle.amqp_typed.specs.Connection.{start_call, start_ok_call, secure_call, secure_ok_call, tune_call, tune_ok_call, open_call, close_call, blocked_call, start_ref_call, start_ok_ref_call, secure_ref_call, secure_ok_ref_call, open_ref_call, close_ref_call, blocked_ref_call, start_view_call, start_ok_view_call, secure_view_call, secure_ok_view_call, open_view_call, close_view_call, blocked_view_call, any_call, any_view_call};
 
 use crate::args::{
-    five, four, is_kind, long_at, long_str, long_str_at, method_of, octet, octet_at, one, own_args,
-    short, short_at, short_str, short_str_at, table, table_at,
+    five, four, long_at, long_str, long_str_at, method_of, octet, octet_at, one, own_args, short,
+    short_at, short_str, short_str_at, table, table_at,
 };
 use crate::bare::Bare;
 use crate::bare_kinds::{ConnectionCloseOk, ConnectionOpenOk, ConnectionUnblocked};
-use crate::views::{
-    is_view_of, kind_in, long_in, long_str_in, octet_in, short_in, short_str_in, table_in,
-};
+use crate::typed::{Typed, TypedRef, TypedView};
+use crate::views::{kind_in, long_in, long_str_in, octet_in, short_in, short_str_in, table_in};
 use amqp_method::{Arg, Kind, Method, MethodRef, OutOfMemory};
 use amqp_value::{ShortStr, Table, TableRef};
 use std::alloc::Global;
@@ -51,11 +50,16 @@ impl Start {
             locales,
         }
     }
+}
 
-    /// The method with these arguments.
-    pub fn into_method(self, alloc: Global) -> Result<Method, OutOfMemory>
-        ensures { IfOk result (λ m. method_view m ≡ start_call self) }
-    {
+impl Typed for Start {
+    ghost KIND = { ConnectionStart };
+
+    ghost says = { start_call };
+
+    const KIND: Kind = Kind::ConnectionStart;
+
+    fn into_method(self, alloc: Global) -> Result<Method, OutOfMemory> {
         method_of(
             alloc,
             Kind::ConnectionStart,
@@ -69,24 +73,14 @@ impl Start {
         )
     }
 
-    /// What the method says, or the method as it was if it is another.
-    pub fn from_method(method: Method) -> Result<Start, Method>
-        ensures args { IfOk result (λ m. start_call m ≡ method_view method) }
-        ensures when { IsOk result ↔ ((method_view method).kind ≡ ConnectionStart) }
-        ensures same { IfErr result (λ m. method_view m ≡ method_view method) }
-    {
-        match own_args(method, Kind::ConnectionStart) {
-            Ok(args) => {
-                let taken = five(args);
-                Ok(Start {
-                    version_major: octet(taken.0),
-                    version_minor: octet(taken.1),
-                    server_properties: table(taken.2),
-                    mechanisms: long_str(taken.3),
-                    locales: long_str(taken.4),
-                })
-            }
-            Err(method) => Err(method),
+    fn of_method(method: Method) -> Start {
+        let taken = five(own_args(method, Kind::ConnectionStart));
+        Start {
+            version_major: octet(taken.0),
+            version_minor: octet(taken.1),
+            server_properties: table(taken.2),
+            mechanisms: long_str(taken.3),
+            locales: long_str(taken.4),
         }
     }
 }
@@ -101,22 +95,19 @@ pub struct StartRef<'a> {
     pub locales: &'a [u8],
 }
 
-impl<'a> StartRef<'a> {
-    /// What the method says, if it is this one.
-    pub fn from_method(method: &'a Method) -> Option<StartRef<'a>>
-        ensures args { IfSome result (λ m. start_ref_call m ≡ method_view method.now) }
-        ensures when { IsSome result ↔ ((method_view method.now).kind ≡ ConnectionStart) }
-    {
-        if !is_kind(method, Kind::ConnectionStart) {
-            return None;
-        }
-        Some(StartRef {
+impl<'a> TypedRef<'a> for StartRef<'a> {
+    type Of = Start;
+
+    ghost lends = { start_ref_call };
+
+    fn of_ref(method: &'a Method) -> StartRef<'a> {
+        StartRef {
             version_major: octet_at(method, 0),
             version_minor: octet_at(method, 1),
             server_properties: table_at(method, 2),
             mechanisms: long_str_at(method, 3),
             locales: long_str_at(method, 4),
-        })
+        }
     }
 }
 
@@ -130,23 +121,12 @@ pub struct StartView<'a> {
     pub locales: &'a [u8],
 }
 
-impl<'a> StartView<'a> {
-    /// What the method says, if it is this one.
-    pub fn from_view(method: MethodRef<'a>) -> Option<StartView<'a>>
-        ensures args { IfSome result (λ m. start_view_call m ≡ lent_call method.entry) }
-        ensures when { IsSome result ↔ ((lent_call method.entry).kind ≡ ConnectionStart) }
-    {
-        if !is_view_of(method, Kind::ConnectionStart) {
-            return None;
-        }
-        Some(StartView::of_view(method))
-    }
+impl<'a> TypedView<'a> for StartView<'a> {
+    type Of = Start;
 
-    /// What a method of this kind says.
-    fn of_view(method: MethodRef<'a>) -> StartView<'a>
-        requires { Fits (lent_call method) × ((lent_call method).kind ≡ ConnectionStart) }
-        ensures { start_view_call result ≡ lent_call method.entry }
-    {
+    ghost shows = { start_view_call };
+
+    fn of_view(method: MethodRef<'a>) -> StartView<'a> {
         StartView {
             version_major: octet_in(method, 0),
             version_minor: octet_in(method, 1),
@@ -182,11 +162,16 @@ impl StartOk {
             locale,
         }
     }
+}
 
-    /// The method with these arguments.
-    pub fn into_method(self, alloc: Global) -> Result<Method, OutOfMemory>
-        ensures { IfOk result (λ m. method_view m ≡ start_ok_call self) }
-    {
+impl Typed for StartOk {
+    ghost KIND = { ConnectionStartOk };
+
+    ghost says = { start_ok_call };
+
+    const KIND: Kind = Kind::ConnectionStartOk;
+
+    fn into_method(self, alloc: Global) -> Result<Method, OutOfMemory> {
         method_of(
             alloc,
             Kind::ConnectionStartOk,
@@ -199,23 +184,13 @@ impl StartOk {
         )
     }
 
-    /// What the method says, or the method as it was if it is another.
-    pub fn from_method(method: Method) -> Result<StartOk, Method>
-        ensures args { IfOk result (λ m. start_ok_call m ≡ method_view method) }
-        ensures when { IsOk result ↔ ((method_view method).kind ≡ ConnectionStartOk) }
-        ensures same { IfErr result (λ m. method_view m ≡ method_view method) }
-    {
-        match own_args(method, Kind::ConnectionStartOk) {
-            Ok(args) => {
-                let taken = four(args);
-                Ok(StartOk {
-                    client_properties: table(taken.0),
-                    mechanism: short_str(taken.1),
-                    response: long_str(taken.2),
-                    locale: short_str(taken.3),
-                })
-            }
-            Err(method) => Err(method),
+    fn of_method(method: Method) -> StartOk {
+        let taken = four(own_args(method, Kind::ConnectionStartOk));
+        StartOk {
+            client_properties: table(taken.0),
+            mechanism: short_str(taken.1),
+            response: long_str(taken.2),
+            locale: short_str(taken.3),
         }
     }
 }
@@ -229,21 +204,18 @@ pub struct StartOkRef<'a> {
     pub locale: &'a ShortStr,
 }
 
-impl<'a> StartOkRef<'a> {
-    /// What the method says, if it is this one.
-    pub fn from_method(method: &'a Method) -> Option<StartOkRef<'a>>
-        ensures args { IfSome result (λ m. start_ok_ref_call m ≡ method_view method.now) }
-        ensures when { IsSome result ↔ ((method_view method.now).kind ≡ ConnectionStartOk) }
-    {
-        if !is_kind(method, Kind::ConnectionStartOk) {
-            return None;
-        }
-        Some(StartOkRef {
+impl<'a> TypedRef<'a> for StartOkRef<'a> {
+    type Of = StartOk;
+
+    ghost lends = { start_ok_ref_call };
+
+    fn of_ref(method: &'a Method) -> StartOkRef<'a> {
+        StartOkRef {
             client_properties: table_at(method, 0),
             mechanism: short_str_at(method, 1),
             response: long_str_at(method, 2),
             locale: short_str_at(method, 3),
-        })
+        }
     }
 }
 
@@ -256,23 +228,12 @@ pub struct StartOkView<'a> {
     pub locale: &'a [u8],
 }
 
-impl<'a> StartOkView<'a> {
-    /// What the method says, if it is this one.
-    pub fn from_view(method: MethodRef<'a>) -> Option<StartOkView<'a>>
-        ensures args { IfSome result (λ m. start_ok_view_call m ≡ lent_call method.entry) }
-        ensures when { IsSome result ↔ ((lent_call method.entry).kind ≡ ConnectionStartOk) }
-    {
-        if !is_view_of(method, Kind::ConnectionStartOk) {
-            return None;
-        }
-        Some(StartOkView::of_view(method))
-    }
+impl<'a> TypedView<'a> for StartOkView<'a> {
+    type Of = StartOk;
 
-    /// What a method of this kind says.
-    fn of_view(method: MethodRef<'a>) -> StartOkView<'a>
-        requires { Fits (lent_call method) × ((lent_call method).kind ≡ ConnectionStartOk) }
-        ensures { start_ok_view_call result ≡ lent_call method.entry }
-    {
+    ghost shows = { start_ok_view_call };
+
+    fn of_view(method: MethodRef<'a>) -> StartOkView<'a> {
         StartOkView {
             client_properties: table_in(method, 0),
             mechanism: short_str_in(method, 1),
@@ -296,11 +257,16 @@ impl Secure {
     {
         Secure { challenge }
     }
+}
 
-    /// The method with these arguments.
-    pub fn into_method(self, alloc: Global) -> Result<Method, OutOfMemory>
-        ensures { IfOk result (λ m. method_view m ≡ secure_call self) }
-    {
+impl Typed for Secure {
+    ghost KIND = { ConnectionSecure };
+
+    ghost says = { secure_call };
+
+    const KIND: Kind = Kind::ConnectionSecure;
+
+    fn into_method(self, alloc: Global) -> Result<Method, OutOfMemory> {
         method_of(
             alloc,
             Kind::ConnectionSecure,
@@ -308,20 +274,10 @@ impl Secure {
         )
     }
 
-    /// What the method says, or the method as it was if it is another.
-    pub fn from_method(method: Method) -> Result<Secure, Method>
-        ensures args { IfOk result (λ m. secure_call m ≡ method_view method) }
-        ensures when { IsOk result ↔ ((method_view method).kind ≡ ConnectionSecure) }
-        ensures same { IfErr result (λ m. method_view m ≡ method_view method) }
-    {
-        match own_args(method, Kind::ConnectionSecure) {
-            Ok(args) => {
-                let taken = one(args);
-                Ok(Secure {
-                    challenge: long_str(taken),
-                })
-            }
-            Err(method) => Err(method),
+    fn of_method(method: Method) -> Secure {
+        let taken = one(own_args(method, Kind::ConnectionSecure));
+        Secure {
+            challenge: long_str(taken),
         }
     }
 }
@@ -332,18 +288,15 @@ pub struct SecureRef<'a> {
     pub challenge: &'a [u8],
 }
 
-impl<'a> SecureRef<'a> {
-    /// What the method says, if it is this one.
-    pub fn from_method(method: &'a Method) -> Option<SecureRef<'a>>
-        ensures args { IfSome result (λ m. secure_ref_call m ≡ method_view method.now) }
-        ensures when { IsSome result ↔ ((method_view method.now).kind ≡ ConnectionSecure) }
-    {
-        if !is_kind(method, Kind::ConnectionSecure) {
-            return None;
-        }
-        Some(SecureRef {
+impl<'a> TypedRef<'a> for SecureRef<'a> {
+    type Of = Secure;
+
+    ghost lends = { secure_ref_call };
+
+    fn of_ref(method: &'a Method) -> SecureRef<'a> {
+        SecureRef {
             challenge: long_str_at(method, 0),
-        })
+        }
     }
 }
 
@@ -353,23 +306,12 @@ pub struct SecureView<'a> {
     pub challenge: &'a [u8],
 }
 
-impl<'a> SecureView<'a> {
-    /// What the method says, if it is this one.
-    pub fn from_view(method: MethodRef<'a>) -> Option<SecureView<'a>>
-        ensures args { IfSome result (λ m. secure_view_call m ≡ lent_call method.entry) }
-        ensures when { IsSome result ↔ ((lent_call method.entry).kind ≡ ConnectionSecure) }
-    {
-        if !is_view_of(method, Kind::ConnectionSecure) {
-            return None;
-        }
-        Some(SecureView::of_view(method))
-    }
+impl<'a> TypedView<'a> for SecureView<'a> {
+    type Of = Secure;
 
-    /// What a method of this kind says.
-    fn of_view(method: MethodRef<'a>) -> SecureView<'a>
-        requires { Fits (lent_call method) × ((lent_call method).kind ≡ ConnectionSecure) }
-        ensures { secure_view_call result ≡ lent_call method.entry }
-    {
+    ghost shows = { secure_view_call };
+
+    fn of_view(method: MethodRef<'a>) -> SecureView<'a> {
         SecureView {
             challenge: long_str_in(method, 0),
         }
@@ -391,11 +333,16 @@ impl SecureOk {
     {
         SecureOk { response }
     }
+}
 
-    /// The method with these arguments.
-    pub fn into_method(self, alloc: Global) -> Result<Method, OutOfMemory>
-        ensures { IfOk result (λ m. method_view m ≡ secure_ok_call self) }
-    {
+impl Typed for SecureOk {
+    ghost KIND = { ConnectionSecureOk };
+
+    ghost says = { secure_ok_call };
+
+    const KIND: Kind = Kind::ConnectionSecureOk;
+
+    fn into_method(self, alloc: Global) -> Result<Method, OutOfMemory> {
         method_of(
             alloc,
             Kind::ConnectionSecureOk,
@@ -403,20 +350,10 @@ impl SecureOk {
         )
     }
 
-    /// What the method says, or the method as it was if it is another.
-    pub fn from_method(method: Method) -> Result<SecureOk, Method>
-        ensures args { IfOk result (λ m. secure_ok_call m ≡ method_view method) }
-        ensures when { IsOk result ↔ ((method_view method).kind ≡ ConnectionSecureOk) }
-        ensures same { IfErr result (λ m. method_view m ≡ method_view method) }
-    {
-        match own_args(method, Kind::ConnectionSecureOk) {
-            Ok(args) => {
-                let taken = one(args);
-                Ok(SecureOk {
-                    response: long_str(taken),
-                })
-            }
-            Err(method) => Err(method),
+    fn of_method(method: Method) -> SecureOk {
+        let taken = one(own_args(method, Kind::ConnectionSecureOk));
+        SecureOk {
+            response: long_str(taken),
         }
     }
 }
@@ -427,18 +364,15 @@ pub struct SecureOkRef<'a> {
     pub response: &'a [u8],
 }
 
-impl<'a> SecureOkRef<'a> {
-    /// What the method says, if it is this one.
-    pub fn from_method(method: &'a Method) -> Option<SecureOkRef<'a>>
-        ensures args { IfSome result (λ m. secure_ok_ref_call m ≡ method_view method.now) }
-        ensures when { IsSome result ↔ ((method_view method.now).kind ≡ ConnectionSecureOk) }
-    {
-        if !is_kind(method, Kind::ConnectionSecureOk) {
-            return None;
-        }
-        Some(SecureOkRef {
+impl<'a> TypedRef<'a> for SecureOkRef<'a> {
+    type Of = SecureOk;
+
+    ghost lends = { secure_ok_ref_call };
+
+    fn of_ref(method: &'a Method) -> SecureOkRef<'a> {
+        SecureOkRef {
             response: long_str_at(method, 0),
-        })
+        }
     }
 }
 
@@ -448,23 +382,12 @@ pub struct SecureOkView<'a> {
     pub response: &'a [u8],
 }
 
-impl<'a> SecureOkView<'a> {
-    /// What the method says, if it is this one.
-    pub fn from_view(method: MethodRef<'a>) -> Option<SecureOkView<'a>>
-        ensures args { IfSome result (λ m. secure_ok_view_call m ≡ lent_call method.entry) }
-        ensures when { IsSome result ↔ ((lent_call method.entry).kind ≡ ConnectionSecureOk) }
-    {
-        if !is_view_of(method, Kind::ConnectionSecureOk) {
-            return None;
-        }
-        Some(SecureOkView::of_view(method))
-    }
+impl<'a> TypedView<'a> for SecureOkView<'a> {
+    type Of = SecureOk;
 
-    /// What a method of this kind says.
-    fn of_view(method: MethodRef<'a>) -> SecureOkView<'a>
-        requires { Fits (lent_call method) × ((lent_call method).kind ≡ ConnectionSecureOk) }
-        ensures { secure_ok_view_call result ≡ lent_call method.entry }
-    {
+    ghost shows = { secure_ok_view_call };
+
+    fn of_view(method: MethodRef<'a>) -> SecureOkView<'a> {
         SecureOkView {
             response: long_str_in(method, 0),
         }
@@ -494,11 +417,16 @@ impl Tune {
             heartbeat,
         }
     }
+}
 
-    /// The method with these arguments.
-    pub fn into_method(self, alloc: Global) -> Result<Method, OutOfMemory>
-        ensures { IfOk result (λ m. method_view m ≡ tune_call self) }
-    {
+impl Typed for Tune {
+    ghost KIND = { ConnectionTune };
+
+    ghost says = { tune_call };
+
+    const KIND: Kind = Kind::ConnectionTune;
+
+    fn into_method(self, alloc: Global) -> Result<Method, OutOfMemory> {
         method_of(
             alloc,
             Kind::ConnectionTune,
@@ -510,46 +438,36 @@ impl Tune {
         )
     }
 
-    /// What the method says, or the method as it was if it is another.
-    pub fn from_method(method: Method) -> Result<Tune, Method>
-        ensures args { IfOk result (λ m. tune_call m ≡ method_view method) }
-        ensures when { IsOk result ↔ ((method_view method).kind ≡ ConnectionTune) }
-        ensures same { IfErr result (λ m. method_view m ≡ method_view method) }
-    {
-        match Tune::from_ref(&method) {
-            Some(tune) => Ok(tune),
-            None => Err(method),
-        }
+    fn of_method(method: Method) -> Tune {
+        Tune::of_ref(&method)
     }
+}
 
-    /// What the method says, if it is this one.
-    pub fn from_ref(method: &Method) -> Option<Tune>
-        ensures args { IfSome result (λ m. tune_call m ≡ method_view method.now) }
-        ensures when { IsSome result ↔ ((method_view method.now).kind ≡ ConnectionTune) }
-    {
-        if !is_kind(method, Kind::ConnectionTune) {
-            return None;
-        }
-        Some(Tune {
+impl<'a> TypedRef<'a> for Tune {
+    type Of = Tune;
+
+    ghost lends = { tune_call };
+
+    fn of_ref(method: &'a Method) -> Tune {
+        Tune {
             channel_max: short_at(method, 0),
             frame_max: long_at(method, 1),
             heartbeat: short_at(method, 2),
-        })
-    }
-
-    /// What the method says, if it is this one.
-    pub fn from_view(method: MethodRef<'_>) -> Option<Tune>
-        ensures args { IfSome result (λ m. tune_call m ≡ lent_call method.entry) }
-        ensures when { IsSome result ↔ ((lent_call method.entry).kind ≡ ConnectionTune) }
-    {
-        if !is_view_of(method, Kind::ConnectionTune) {
-            return None;
         }
-        Some(Tune {
+    }
+}
+
+impl<'a> TypedView<'a> for Tune {
+    type Of = Tune;
+
+    ghost shows = { tune_call };
+
+    fn of_view(method: MethodRef<'a>) -> Tune {
+        Tune {
             channel_max: short_in(method, 0),
             frame_max: long_in(method, 1),
             heartbeat: short_in(method, 2),
-        })
+        }
     }
 }
 
@@ -576,11 +494,16 @@ impl TuneOk {
             heartbeat,
         }
     }
+}
 
-    /// The method with these arguments.
-    pub fn into_method(self, alloc: Global) -> Result<Method, OutOfMemory>
-        ensures { IfOk result (λ m. method_view m ≡ tune_ok_call self) }
-    {
+impl Typed for TuneOk {
+    ghost KIND = { ConnectionTuneOk };
+
+    ghost says = { tune_ok_call };
+
+    const KIND: Kind = Kind::ConnectionTuneOk;
+
+    fn into_method(self, alloc: Global) -> Result<Method, OutOfMemory> {
         method_of(
             alloc,
             Kind::ConnectionTuneOk,
@@ -592,46 +515,36 @@ impl TuneOk {
         )
     }
 
-    /// What the method says, or the method as it was if it is another.
-    pub fn from_method(method: Method) -> Result<TuneOk, Method>
-        ensures args { IfOk result (λ m. tune_ok_call m ≡ method_view method) }
-        ensures when { IsOk result ↔ ((method_view method).kind ≡ ConnectionTuneOk) }
-        ensures same { IfErr result (λ m. method_view m ≡ method_view method) }
-    {
-        match TuneOk::from_ref(&method) {
-            Some(tune_ok) => Ok(tune_ok),
-            None => Err(method),
-        }
+    fn of_method(method: Method) -> TuneOk {
+        TuneOk::of_ref(&method)
     }
+}
 
-    /// What the method says, if it is this one.
-    pub fn from_ref(method: &Method) -> Option<TuneOk>
-        ensures args { IfSome result (λ m. tune_ok_call m ≡ method_view method.now) }
-        ensures when { IsSome result ↔ ((method_view method.now).kind ≡ ConnectionTuneOk) }
-    {
-        if !is_kind(method, Kind::ConnectionTuneOk) {
-            return None;
-        }
-        Some(TuneOk {
+impl<'a> TypedRef<'a> for TuneOk {
+    type Of = TuneOk;
+
+    ghost lends = { tune_ok_call };
+
+    fn of_ref(method: &'a Method) -> TuneOk {
+        TuneOk {
             channel_max: short_at(method, 0),
             frame_max: long_at(method, 1),
             heartbeat: short_at(method, 2),
-        })
-    }
-
-    /// What the method says, if it is this one.
-    pub fn from_view(method: MethodRef<'_>) -> Option<TuneOk>
-        ensures args { IfSome result (λ m. tune_ok_call m ≡ lent_call method.entry) }
-        ensures when { IsSome result ↔ ((lent_call method.entry).kind ≡ ConnectionTuneOk) }
-    {
-        if !is_view_of(method, Kind::ConnectionTuneOk) {
-            return None;
         }
-        Some(TuneOk {
+    }
+}
+
+impl<'a> TypedView<'a> for TuneOk {
+    type Of = TuneOk;
+
+    ghost shows = { tune_ok_call };
+
+    fn of_view(method: MethodRef<'a>) -> TuneOk {
+        TuneOk {
             channel_max: short_in(method, 0),
             frame_max: long_in(method, 1),
             heartbeat: short_in(method, 2),
-        })
+        }
     }
 }
 
@@ -648,11 +561,16 @@ impl Open {
     {
         Open { virtual_host }
     }
+}
 
-    /// The method with these arguments.
-    pub fn into_method(self, alloc: Global) -> Result<Method, OutOfMemory>
-        ensures { IfOk result (λ m. method_view m ≡ open_call self) }
-    {
+impl Typed for Open {
+    ghost KIND = { ConnectionOpen };
+
+    ghost says = { open_call };
+
+    const KIND: Kind = Kind::ConnectionOpen;
+
+    fn into_method(self, alloc: Global) -> Result<Method, OutOfMemory> {
         method_of(
             alloc,
             Kind::ConnectionOpen,
@@ -660,20 +578,10 @@ impl Open {
         )
     }
 
-    /// What the method says, or the method as it was if it is another.
-    pub fn from_method(method: Method) -> Result<Open, Method>
-        ensures args { IfOk result (λ m. open_call m ≡ method_view method) }
-        ensures when { IsOk result ↔ ((method_view method).kind ≡ ConnectionOpen) }
-        ensures same { IfErr result (λ m. method_view m ≡ method_view method) }
-    {
-        match own_args(method, Kind::ConnectionOpen) {
-            Ok(args) => {
-                let taken = one(args);
-                Ok(Open {
-                    virtual_host: short_str(taken),
-                })
-            }
-            Err(method) => Err(method),
+    fn of_method(method: Method) -> Open {
+        let taken = one(own_args(method, Kind::ConnectionOpen));
+        Open {
+            virtual_host: short_str(taken),
         }
     }
 }
@@ -684,18 +592,15 @@ pub struct OpenRef<'a> {
     pub virtual_host: &'a ShortStr,
 }
 
-impl<'a> OpenRef<'a> {
-    /// What the method says, if it is this one.
-    pub fn from_method(method: &'a Method) -> Option<OpenRef<'a>>
-        ensures args { IfSome result (λ m. open_ref_call m ≡ method_view method.now) }
-        ensures when { IsSome result ↔ ((method_view method.now).kind ≡ ConnectionOpen) }
-    {
-        if !is_kind(method, Kind::ConnectionOpen) {
-            return None;
-        }
-        Some(OpenRef {
+impl<'a> TypedRef<'a> for OpenRef<'a> {
+    type Of = Open;
+
+    ghost lends = { open_ref_call };
+
+    fn of_ref(method: &'a Method) -> OpenRef<'a> {
+        OpenRef {
             virtual_host: short_str_at(method, 0),
-        })
+        }
     }
 }
 
@@ -705,23 +610,12 @@ pub struct OpenView<'a> {
     pub virtual_host: &'a [u8],
 }
 
-impl<'a> OpenView<'a> {
-    /// What the method says, if it is this one.
-    pub fn from_view(method: MethodRef<'a>) -> Option<OpenView<'a>>
-        ensures args { IfSome result (λ m. open_view_call m ≡ lent_call method.entry) }
-        ensures when { IsSome result ↔ ((lent_call method.entry).kind ≡ ConnectionOpen) }
-    {
-        if !is_view_of(method, Kind::ConnectionOpen) {
-            return None;
-        }
-        Some(OpenView::of_view(method))
-    }
+impl<'a> TypedView<'a> for OpenView<'a> {
+    type Of = Open;
 
-    /// What a method of this kind says.
-    fn of_view(method: MethodRef<'a>) -> OpenView<'a>
-        requires { Fits (lent_call method) × ((lent_call method).kind ≡ ConnectionOpen) }
-        ensures { open_view_call result ≡ lent_call method.entry }
-    {
+    ghost shows = { open_view_call };
+
+    fn of_view(method: MethodRef<'a>) -> OpenView<'a> {
         OpenView {
             virtual_host: short_str_in(method, 0),
         }
@@ -755,11 +649,16 @@ impl Close {
             method_id: 0,
         }
     }
+}
 
-    /// The method with these arguments.
-    pub fn into_method(self, alloc: Global) -> Result<Method, OutOfMemory>
-        ensures { IfOk result (λ m. method_view m ≡ close_call self) }
-    {
+impl Typed for Close {
+    ghost KIND = { ConnectionClose };
+
+    ghost says = { close_call };
+
+    const KIND: Kind = Kind::ConnectionClose;
+
+    fn into_method(self, alloc: Global) -> Result<Method, OutOfMemory> {
         method_of(
             alloc,
             Kind::ConnectionClose,
@@ -772,23 +671,13 @@ impl Close {
         )
     }
 
-    /// What the method says, or the method as it was if it is another.
-    pub fn from_method(method: Method) -> Result<Close, Method>
-        ensures args { IfOk result (λ m. close_call m ≡ method_view method) }
-        ensures when { IsOk result ↔ ((method_view method).kind ≡ ConnectionClose) }
-        ensures same { IfErr result (λ m. method_view m ≡ method_view method) }
-    {
-        match own_args(method, Kind::ConnectionClose) {
-            Ok(args) => {
-                let taken = four(args);
-                Ok(Close {
-                    reply_code: short(taken.0),
-                    reply_text: short_str(taken.1),
-                    class_id: short(taken.2),
-                    method_id: short(taken.3),
-                })
-            }
-            Err(method) => Err(method),
+    fn of_method(method: Method) -> Close {
+        let taken = four(own_args(method, Kind::ConnectionClose));
+        Close {
+            reply_code: short(taken.0),
+            reply_text: short_str(taken.1),
+            class_id: short(taken.2),
+            method_id: short(taken.3),
         }
     }
 }
@@ -802,21 +691,18 @@ pub struct CloseRef<'a> {
     pub method_id: u16,
 }
 
-impl<'a> CloseRef<'a> {
-    /// What the method says, if it is this one.
-    pub fn from_method(method: &'a Method) -> Option<CloseRef<'a>>
-        ensures args { IfSome result (λ m. close_ref_call m ≡ method_view method.now) }
-        ensures when { IsSome result ↔ ((method_view method.now).kind ≡ ConnectionClose) }
-    {
-        if !is_kind(method, Kind::ConnectionClose) {
-            return None;
-        }
-        Some(CloseRef {
+impl<'a> TypedRef<'a> for CloseRef<'a> {
+    type Of = Close;
+
+    ghost lends = { close_ref_call };
+
+    fn of_ref(method: &'a Method) -> CloseRef<'a> {
+        CloseRef {
             reply_code: short_at(method, 0),
             reply_text: short_str_at(method, 1),
             class_id: short_at(method, 2),
             method_id: short_at(method, 3),
-        })
+        }
     }
 }
 
@@ -829,23 +715,12 @@ pub struct CloseView<'a> {
     pub method_id: u16,
 }
 
-impl<'a> CloseView<'a> {
-    /// What the method says, if it is this one.
-    pub fn from_view(method: MethodRef<'a>) -> Option<CloseView<'a>>
-        ensures args { IfSome result (λ m. close_view_call m ≡ lent_call method.entry) }
-        ensures when { IsSome result ↔ ((lent_call method.entry).kind ≡ ConnectionClose) }
-    {
-        if !is_view_of(method, Kind::ConnectionClose) {
-            return None;
-        }
-        Some(CloseView::of_view(method))
-    }
+impl<'a> TypedView<'a> for CloseView<'a> {
+    type Of = Close;
 
-    /// What a method of this kind says.
-    fn of_view(method: MethodRef<'a>) -> CloseView<'a>
-        requires { Fits (lent_call method) × ((lent_call method).kind ≡ ConnectionClose) }
-        ensures { close_view_call result ≡ lent_call method.entry }
-    {
+    ghost shows = { close_view_call };
+
+    fn of_view(method: MethodRef<'a>) -> CloseView<'a> {
         CloseView {
             reply_code: short_in(method, 0),
             reply_text: short_str_in(method, 1),
@@ -871,28 +746,23 @@ impl Blocked {
     {
         Blocked { reason }
     }
+}
 
-    /// The method with these arguments.
-    pub fn into_method(self, alloc: Global) -> Result<Method, OutOfMemory>
-        ensures { IfOk result (λ m. method_view m ≡ blocked_call self) }
-    {
+impl Typed for Blocked {
+    ghost KIND = { ConnectionBlocked };
+
+    ghost says = { blocked_call };
+
+    const KIND: Kind = Kind::ConnectionBlocked;
+
+    fn into_method(self, alloc: Global) -> Result<Method, OutOfMemory> {
         method_of(alloc, Kind::ConnectionBlocked, [Arg::ShortStr(self.reason)])
     }
 
-    /// What the method says, or the method as it was if it is another.
-    pub fn from_method(method: Method) -> Result<Blocked, Method>
-        ensures args { IfOk result (λ m. blocked_call m ≡ method_view method) }
-        ensures when { IsOk result ↔ ((method_view method).kind ≡ ConnectionBlocked) }
-        ensures same { IfErr result (λ m. method_view m ≡ method_view method) }
-    {
-        match own_args(method, Kind::ConnectionBlocked) {
-            Ok(args) => {
-                let taken = one(args);
-                Ok(Blocked {
-                    reason: short_str(taken),
-                })
-            }
-            Err(method) => Err(method),
+    fn of_method(method: Method) -> Blocked {
+        let taken = one(own_args(method, Kind::ConnectionBlocked));
+        Blocked {
+            reason: short_str(taken),
         }
     }
 }
@@ -903,18 +773,15 @@ pub struct BlockedRef<'a> {
     pub reason: &'a ShortStr,
 }
 
-impl<'a> BlockedRef<'a> {
-    /// What the method says, if it is this one.
-    pub fn from_method(method: &'a Method) -> Option<BlockedRef<'a>>
-        ensures args { IfSome result (λ m. blocked_ref_call m ≡ method_view method.now) }
-        ensures when { IsSome result ↔ ((method_view method.now).kind ≡ ConnectionBlocked) }
-    {
-        if !is_kind(method, Kind::ConnectionBlocked) {
-            return None;
-        }
-        Some(BlockedRef {
+impl<'a> TypedRef<'a> for BlockedRef<'a> {
+    type Of = Blocked;
+
+    ghost lends = { blocked_ref_call };
+
+    fn of_ref(method: &'a Method) -> BlockedRef<'a> {
+        BlockedRef {
             reason: short_str_at(method, 0),
-        })
+        }
     }
 }
 
@@ -924,23 +791,12 @@ pub struct BlockedView<'a> {
     pub reason: &'a [u8],
 }
 
-impl<'a> BlockedView<'a> {
-    /// What the method says, if it is this one.
-    pub fn from_view(method: MethodRef<'a>) -> Option<BlockedView<'a>>
-        ensures args { IfSome result (λ m. blocked_view_call m ≡ lent_call method.entry) }
-        ensures when { IsSome result ↔ ((lent_call method.entry).kind ≡ ConnectionBlocked) }
-    {
-        if !is_view_of(method, Kind::ConnectionBlocked) {
-            return None;
-        }
-        Some(BlockedView::of_view(method))
-    }
+impl<'a> TypedView<'a> for BlockedView<'a> {
+    type Of = Blocked;
 
-    /// What a method of this kind says.
-    fn of_view(method: MethodRef<'a>) -> BlockedView<'a>
-        requires { Fits (lent_call method) × ((lent_call method).kind ≡ ConnectionBlocked) }
-        ensures { blocked_view_call result ≡ lent_call method.entry }
-    {
+    ghost shows = { blocked_view_call };
+
+    fn of_view(method: MethodRef<'a>) -> BlockedView<'a> {
         BlockedView {
             reason: short_str_in(method, 0),
         }
@@ -993,17 +849,17 @@ impl AnyMethod {
         ensures { any_call result ≡ method_view method }
     {
         match method.kind() {
-            Kind::ConnectionStart => AnyMethod::Start(Start::from_method(method).unwrap()),
-            Kind::ConnectionStartOk => AnyMethod::StartOk(StartOk::from_method(method).unwrap()),
-            Kind::ConnectionSecure => AnyMethod::Secure(Secure::from_method(method).unwrap()),
-            Kind::ConnectionSecureOk => AnyMethod::SecureOk(SecureOk::from_method(method).unwrap()),
-            Kind::ConnectionTune => AnyMethod::Tune(Tune::from_method(method).unwrap()),
-            Kind::ConnectionTuneOk => AnyMethod::TuneOk(TuneOk::from_method(method).unwrap()),
-            Kind::ConnectionOpen => AnyMethod::Open(Open::from_method(method).unwrap()),
+            Kind::ConnectionStart => AnyMethod::Start(Start::of_method(method)),
+            Kind::ConnectionStartOk => AnyMethod::StartOk(StartOk::of_method(method)),
+            Kind::ConnectionSecure => AnyMethod::Secure(Secure::of_method(method)),
+            Kind::ConnectionSecureOk => AnyMethod::SecureOk(SecureOk::of_method(method)),
+            Kind::ConnectionTune => AnyMethod::Tune(Tune::of_method(method)),
+            Kind::ConnectionTuneOk => AnyMethod::TuneOk(TuneOk::of_method(method)),
+            Kind::ConnectionOpen => AnyMethod::Open(Open::of_method(method)),
             Kind::ConnectionOpenOk => AnyMethod::OpenOk(OpenOk::of_method(method)),
-            Kind::ConnectionClose => AnyMethod::Close(Close::from_method(method).unwrap()),
+            Kind::ConnectionClose => AnyMethod::Close(Close::of_method(method)),
             Kind::ConnectionCloseOk => AnyMethod::CloseOk(CloseOk::of_method(method)),
-            Kind::ConnectionBlocked => AnyMethod::Blocked(Blocked::from_method(method).unwrap()),
+            Kind::ConnectionBlocked => AnyMethod::Blocked(Blocked::of_method(method)),
             Kind::ConnectionUnblocked => AnyMethod::Unblocked(Unblocked::of_method(method)),
             _ => unreachable!(),
         }
@@ -1097,8 +953,8 @@ impl<'a> AnyMethodView<'a> {
             Kind::ConnectionStartOk => AnyMethodView::StartOk(StartOkView::of_view(method)),
             Kind::ConnectionSecure => AnyMethodView::Secure(SecureView::of_view(method)),
             Kind::ConnectionSecureOk => AnyMethodView::SecureOk(SecureOkView::of_view(method)),
-            Kind::ConnectionTune => AnyMethodView::Tune(Tune::from_view(method).unwrap()),
-            Kind::ConnectionTuneOk => AnyMethodView::TuneOk(TuneOk::from_view(method).unwrap()),
+            Kind::ConnectionTune => AnyMethodView::Tune(Tune::of_view(method)),
+            Kind::ConnectionTuneOk => AnyMethodView::TuneOk(TuneOk::of_view(method)),
             Kind::ConnectionOpen => AnyMethodView::Open(OpenView::of_view(method)),
             Kind::ConnectionOpenOk => AnyMethodView::OpenOk(OpenOk::of_view(method)),
             Kind::ConnectionClose => AnyMethodView::Close(CloseView::of_view(method)),

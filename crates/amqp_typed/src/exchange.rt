@@ -1,8 +1,8 @@
 //! The methods of the class exchange (`amqp0-9-1.xml`, class 40).
 // Written by `tools/typed_methods.py` from the table of methods in `docs/PROTOCOL.md`: change those and run it again.
-ghost use Rattle.std.specs.Prelude.{◌≡◌, ◌↔◌, IfOk, IfErr, IfSome, IsOk, IsSome, false, ◌∷◌, []};
+ghost use Rattle.std.specs.Prelude.{◌≡◌, IfOk, false, ◌∷◌, []};
 ghost use Rattle.amqp_value.specs.Values.{no_pairs};
-ghost use Rattle.amqp_method.specs.Arguments.{call, Fits, bit, short_string, table};
+ghost use Rattle.amqp_method.specs.Arguments.{call, bit, short_string, table};
 ghost use Rattle.amqp_method.specs.MethodRefView.{lent_call};
 ghost use Rattle.amqp_method.specs.MethodView.{method_view};
 ghost use Rattle.amqp_method.specs.Methods.{row};
@@ -10,12 +10,12 @@ ghost use Rattle.amqp_method.specs.declared.kinds.Kind.TheVariants.{ExchangeDecl
 ghost use Rattle.amqp_typed.specs.Exchange.{declare_call, delete_call, bind_call, unbind_call, declare_ref_call, delete_ref_call, bind_ref_call, unbind_ref_call, declare_view_call, delete_view_call, bind_view_call, unbind_view_call, any_call, any_view_call};
 
 use crate::args::{
-    bit, bit_at, eight, five, is_kind, method_of, own_args, short_str, short_str_at, table,
-    table_at, three,
+    bit, bit_at, eight, five, method_of, own_args, short_str, short_str_at, table, table_at, three,
 };
 use crate::bare::Bare;
 use crate::bare_kinds::{ExchangeBindOk, ExchangeDeclareOk, ExchangeDeleteOk, ExchangeUnbindOk};
-use crate::views::{bit_in, is_view_of, kind_in, short_str_in, table_in};
+use crate::typed::{Typed, TypedRef, TypedView};
+use crate::views::{bit_in, kind_in, short_str_in, table_in};
 use amqp_method::{Arg, Kind, Method, MethodRef, OutOfMemory};
 use amqp_value::{ShortStr, Table, TableRef};
 use std::alloc::Global;
@@ -59,11 +59,16 @@ impl Declare {
             arguments: Table::new(alloc),
         }
     }
+}
 
-    /// The method with these arguments.
-    pub fn into_method(self, alloc: Global) -> Result<Method, OutOfMemory>
-        ensures { IfOk result (λ m. method_view m ≡ declare_call self) }
-    {
+impl Typed for Declare {
+    ghost KIND = { ExchangeDeclare };
+
+    ghost says = { declare_call };
+
+    const KIND: Kind = Kind::ExchangeDeclare;
+
+    fn into_method(self, alloc: Global) -> Result<Method, OutOfMemory> {
         method_of(
             alloc,
             Kind::ExchangeDeclare,
@@ -80,27 +85,17 @@ impl Declare {
         )
     }
 
-    /// What the method says, or the method as it was if it is another.
-    pub fn from_method(method: Method) -> Result<Declare, Method>
-        ensures args { IfOk result (λ m. declare_call m ≡ method_view method) }
-        ensures when { IsOk result ↔ ((method_view method).kind ≡ ExchangeDeclare) }
-        ensures same { IfErr result (λ m. method_view m ≡ method_view method) }
-    {
-        match own_args(method, Kind::ExchangeDeclare) {
-            Ok(args) => {
-                let taken = eight(args);
-                Ok(Declare {
-                    exchange: short_str(taken.0),
-                    type_name: short_str(taken.1),
-                    passive: bit(taken.2),
-                    durable: bit(taken.3),
-                    auto_delete: bit(taken.4),
-                    internal: bit(taken.5),
-                    no_wait: bit(taken.6),
-                    arguments: table(taken.7),
-                })
-            }
-            Err(method) => Err(method),
+    fn of_method(method: Method) -> Declare {
+        let taken = eight(own_args(method, Kind::ExchangeDeclare));
+        Declare {
+            exchange: short_str(taken.0),
+            type_name: short_str(taken.1),
+            passive: bit(taken.2),
+            durable: bit(taken.3),
+            auto_delete: bit(taken.4),
+            internal: bit(taken.5),
+            no_wait: bit(taken.6),
+            arguments: table(taken.7),
         }
     }
 }
@@ -118,16 +113,13 @@ pub struct DeclareRef<'a> {
     pub arguments: &'a Table,
 }
 
-impl<'a> DeclareRef<'a> {
-    /// What the method says, if it is this one.
-    pub fn from_method(method: &'a Method) -> Option<DeclareRef<'a>>
-        ensures args { IfSome result (λ m. declare_ref_call m ≡ method_view method.now) }
-        ensures when { IsSome result ↔ ((method_view method.now).kind ≡ ExchangeDeclare) }
-    {
-        if !is_kind(method, Kind::ExchangeDeclare) {
-            return None;
-        }
-        Some(DeclareRef {
+impl<'a> TypedRef<'a> for DeclareRef<'a> {
+    type Of = Declare;
+
+    ghost lends = { declare_ref_call };
+
+    fn of_ref(method: &'a Method) -> DeclareRef<'a> {
+        DeclareRef {
             exchange: short_str_at(method, 0),
             type_name: short_str_at(method, 1),
             passive: bit_at(method, 2),
@@ -136,7 +128,7 @@ impl<'a> DeclareRef<'a> {
             internal: bit_at(method, 5),
             no_wait: bit_at(method, 6),
             arguments: table_at(method, 7),
-        })
+        }
     }
 }
 
@@ -153,23 +145,12 @@ pub struct DeclareView<'a> {
     pub arguments: TableRef<'a>,
 }
 
-impl<'a> DeclareView<'a> {
-    /// What the method says, if it is this one.
-    pub fn from_view(method: MethodRef<'a>) -> Option<DeclareView<'a>>
-        ensures args { IfSome result (λ m. declare_view_call m ≡ lent_call method.entry) }
-        ensures when { IsSome result ↔ ((lent_call method.entry).kind ≡ ExchangeDeclare) }
-    {
-        if !is_view_of(method, Kind::ExchangeDeclare) {
-            return None;
-        }
-        Some(DeclareView::of_view(method))
-    }
+impl<'a> TypedView<'a> for DeclareView<'a> {
+    type Of = Declare;
 
-    /// What a method of this kind says.
-    fn of_view(method: MethodRef<'a>) -> DeclareView<'a>
-        requires { Fits (lent_call method) × ((lent_call method).kind ≡ ExchangeDeclare) }
-        ensures { declare_view_call result ≡ lent_call method.entry }
-    {
+    ghost shows = { declare_view_call };
+
+    fn of_view(method: MethodRef<'a>) -> DeclareView<'a> {
         DeclareView {
             exchange: short_str_in(method, 0),
             type_name: short_str_in(method, 1),
@@ -208,11 +189,16 @@ impl Delete {
             no_wait: false,
         }
     }
+}
 
-    /// The method with these arguments.
-    pub fn into_method(self, alloc: Global) -> Result<Method, OutOfMemory>
-        ensures { IfOk result (λ m. method_view m ≡ delete_call self) }
-    {
+impl Typed for Delete {
+    ghost KIND = { ExchangeDelete };
+
+    ghost says = { delete_call };
+
+    const KIND: Kind = Kind::ExchangeDelete;
+
+    fn into_method(self, alloc: Global) -> Result<Method, OutOfMemory> {
         method_of(
             alloc,
             Kind::ExchangeDelete,
@@ -224,22 +210,12 @@ impl Delete {
         )
     }
 
-    /// What the method says, or the method as it was if it is another.
-    pub fn from_method(method: Method) -> Result<Delete, Method>
-        ensures args { IfOk result (λ m. delete_call m ≡ method_view method) }
-        ensures when { IsOk result ↔ ((method_view method).kind ≡ ExchangeDelete) }
-        ensures same { IfErr result (λ m. method_view m ≡ method_view method) }
-    {
-        match own_args(method, Kind::ExchangeDelete) {
-            Ok(args) => {
-                let taken = three(args);
-                Ok(Delete {
-                    exchange: short_str(taken.0),
-                    if_unused: bit(taken.1),
-                    no_wait: bit(taken.2),
-                })
-            }
-            Err(method) => Err(method),
+    fn of_method(method: Method) -> Delete {
+        let taken = three(own_args(method, Kind::ExchangeDelete));
+        Delete {
+            exchange: short_str(taken.0),
+            if_unused: bit(taken.1),
+            no_wait: bit(taken.2),
         }
     }
 }
@@ -252,20 +228,17 @@ pub struct DeleteRef<'a> {
     pub no_wait: bool,
 }
 
-impl<'a> DeleteRef<'a> {
-    /// What the method says, if it is this one.
-    pub fn from_method(method: &'a Method) -> Option<DeleteRef<'a>>
-        ensures args { IfSome result (λ m. delete_ref_call m ≡ method_view method.now) }
-        ensures when { IsSome result ↔ ((method_view method.now).kind ≡ ExchangeDelete) }
-    {
-        if !is_kind(method, Kind::ExchangeDelete) {
-            return None;
-        }
-        Some(DeleteRef {
+impl<'a> TypedRef<'a> for DeleteRef<'a> {
+    type Of = Delete;
+
+    ghost lends = { delete_ref_call };
+
+    fn of_ref(method: &'a Method) -> DeleteRef<'a> {
+        DeleteRef {
             exchange: short_str_at(method, 0),
             if_unused: bit_at(method, 1),
             no_wait: bit_at(method, 2),
-        })
+        }
     }
 }
 
@@ -277,23 +250,12 @@ pub struct DeleteView<'a> {
     pub no_wait: bool,
 }
 
-impl<'a> DeleteView<'a> {
-    /// What the method says, if it is this one.
-    pub fn from_view(method: MethodRef<'a>) -> Option<DeleteView<'a>>
-        ensures args { IfSome result (λ m. delete_view_call m ≡ lent_call method.entry) }
-        ensures when { IsSome result ↔ ((lent_call method.entry).kind ≡ ExchangeDelete) }
-    {
-        if !is_view_of(method, Kind::ExchangeDelete) {
-            return None;
-        }
-        Some(DeleteView::of_view(method))
-    }
+impl<'a> TypedView<'a> for DeleteView<'a> {
+    type Of = Delete;
 
-    /// What a method of this kind says.
-    fn of_view(method: MethodRef<'a>) -> DeleteView<'a>
-        requires { Fits (lent_call method) × ((lent_call method).kind ≡ ExchangeDelete) }
-        ensures { delete_view_call result ≡ lent_call method.entry }
-    {
+    ghost shows = { delete_view_call };
+
+    fn of_view(method: MethodRef<'a>) -> DeleteView<'a> {
         DeleteView {
             exchange: short_str_in(method, 0),
             if_unused: bit_in(method, 1),
@@ -338,11 +300,16 @@ impl Bind {
             arguments: Table::new(alloc),
         }
     }
+}
 
-    /// The method with these arguments.
-    pub fn into_method(self, alloc: Global) -> Result<Method, OutOfMemory>
-        ensures { IfOk result (λ m. method_view m ≡ bind_call self) }
-    {
+impl Typed for Bind {
+    ghost KIND = { ExchangeBind };
+
+    ghost says = { bind_call };
+
+    const KIND: Kind = Kind::ExchangeBind;
+
+    fn into_method(self, alloc: Global) -> Result<Method, OutOfMemory> {
         method_of(
             alloc,
             Kind::ExchangeBind,
@@ -356,24 +323,14 @@ impl Bind {
         )
     }
 
-    /// What the method says, or the method as it was if it is another.
-    pub fn from_method(method: Method) -> Result<Bind, Method>
-        ensures args { IfOk result (λ m. bind_call m ≡ method_view method) }
-        ensures when { IsOk result ↔ ((method_view method).kind ≡ ExchangeBind) }
-        ensures same { IfErr result (λ m. method_view m ≡ method_view method) }
-    {
-        match own_args(method, Kind::ExchangeBind) {
-            Ok(args) => {
-                let taken = five(args);
-                Ok(Bind {
-                    destination: short_str(taken.0),
-                    source: short_str(taken.1),
-                    routing_key: short_str(taken.2),
-                    no_wait: bit(taken.3),
-                    arguments: table(taken.4),
-                })
-            }
-            Err(method) => Err(method),
+    fn of_method(method: Method) -> Bind {
+        let taken = five(own_args(method, Kind::ExchangeBind));
+        Bind {
+            destination: short_str(taken.0),
+            source: short_str(taken.1),
+            routing_key: short_str(taken.2),
+            no_wait: bit(taken.3),
+            arguments: table(taken.4),
         }
     }
 }
@@ -388,22 +345,19 @@ pub struct BindRef<'a> {
     pub arguments: &'a Table,
 }
 
-impl<'a> BindRef<'a> {
-    /// What the method says, if it is this one.
-    pub fn from_method(method: &'a Method) -> Option<BindRef<'a>>
-        ensures args { IfSome result (λ m. bind_ref_call m ≡ method_view method.now) }
-        ensures when { IsSome result ↔ ((method_view method.now).kind ≡ ExchangeBind) }
-    {
-        if !is_kind(method, Kind::ExchangeBind) {
-            return None;
-        }
-        Some(BindRef {
+impl<'a> TypedRef<'a> for BindRef<'a> {
+    type Of = Bind;
+
+    ghost lends = { bind_ref_call };
+
+    fn of_ref(method: &'a Method) -> BindRef<'a> {
+        BindRef {
             destination: short_str_at(method, 0),
             source: short_str_at(method, 1),
             routing_key: short_str_at(method, 2),
             no_wait: bit_at(method, 3),
             arguments: table_at(method, 4),
-        })
+        }
     }
 }
 
@@ -417,23 +371,12 @@ pub struct BindView<'a> {
     pub arguments: TableRef<'a>,
 }
 
-impl<'a> BindView<'a> {
-    /// What the method says, if it is this one.
-    pub fn from_view(method: MethodRef<'a>) -> Option<BindView<'a>>
-        ensures args { IfSome result (λ m. bind_view_call m ≡ lent_call method.entry) }
-        ensures when { IsSome result ↔ ((lent_call method.entry).kind ≡ ExchangeBind) }
-    {
-        if !is_view_of(method, Kind::ExchangeBind) {
-            return None;
-        }
-        Some(BindView::of_view(method))
-    }
+impl<'a> TypedView<'a> for BindView<'a> {
+    type Of = Bind;
 
-    /// What a method of this kind says.
-    fn of_view(method: MethodRef<'a>) -> BindView<'a>
-        requires { Fits (lent_call method) × ((lent_call method).kind ≡ ExchangeBind) }
-        ensures { bind_view_call result ≡ lent_call method.entry }
-    {
+    ghost shows = { bind_view_call };
+
+    fn of_view(method: MethodRef<'a>) -> BindView<'a> {
         BindView {
             destination: short_str_in(method, 0),
             source: short_str_in(method, 1),
@@ -480,11 +423,16 @@ impl Unbind {
             arguments: Table::new(alloc),
         }
     }
+}
 
-    /// The method with these arguments.
-    pub fn into_method(self, alloc: Global) -> Result<Method, OutOfMemory>
-        ensures { IfOk result (λ m. method_view m ≡ unbind_call self) }
-    {
+impl Typed for Unbind {
+    ghost KIND = { ExchangeUnbind };
+
+    ghost says = { unbind_call };
+
+    const KIND: Kind = Kind::ExchangeUnbind;
+
+    fn into_method(self, alloc: Global) -> Result<Method, OutOfMemory> {
         method_of(
             alloc,
             Kind::ExchangeUnbind,
@@ -498,24 +446,14 @@ impl Unbind {
         )
     }
 
-    /// What the method says, or the method as it was if it is another.
-    pub fn from_method(method: Method) -> Result<Unbind, Method>
-        ensures args { IfOk result (λ m. unbind_call m ≡ method_view method) }
-        ensures when { IsOk result ↔ ((method_view method).kind ≡ ExchangeUnbind) }
-        ensures same { IfErr result (λ m. method_view m ≡ method_view method) }
-    {
-        match own_args(method, Kind::ExchangeUnbind) {
-            Ok(args) => {
-                let taken = five(args);
-                Ok(Unbind {
-                    destination: short_str(taken.0),
-                    source: short_str(taken.1),
-                    routing_key: short_str(taken.2),
-                    no_wait: bit(taken.3),
-                    arguments: table(taken.4),
-                })
-            }
-            Err(method) => Err(method),
+    fn of_method(method: Method) -> Unbind {
+        let taken = five(own_args(method, Kind::ExchangeUnbind));
+        Unbind {
+            destination: short_str(taken.0),
+            source: short_str(taken.1),
+            routing_key: short_str(taken.2),
+            no_wait: bit(taken.3),
+            arguments: table(taken.4),
         }
     }
 }
@@ -530,22 +468,19 @@ pub struct UnbindRef<'a> {
     pub arguments: &'a Table,
 }
 
-impl<'a> UnbindRef<'a> {
-    /// What the method says, if it is this one.
-    pub fn from_method(method: &'a Method) -> Option<UnbindRef<'a>>
-        ensures args { IfSome result (λ m. unbind_ref_call m ≡ method_view method.now) }
-        ensures when { IsSome result ↔ ((method_view method.now).kind ≡ ExchangeUnbind) }
-    {
-        if !is_kind(method, Kind::ExchangeUnbind) {
-            return None;
-        }
-        Some(UnbindRef {
+impl<'a> TypedRef<'a> for UnbindRef<'a> {
+    type Of = Unbind;
+
+    ghost lends = { unbind_ref_call };
+
+    fn of_ref(method: &'a Method) -> UnbindRef<'a> {
+        UnbindRef {
             destination: short_str_at(method, 0),
             source: short_str_at(method, 1),
             routing_key: short_str_at(method, 2),
             no_wait: bit_at(method, 3),
             arguments: table_at(method, 4),
-        })
+        }
     }
 }
 
@@ -559,23 +494,12 @@ pub struct UnbindView<'a> {
     pub arguments: TableRef<'a>,
 }
 
-impl<'a> UnbindView<'a> {
-    /// What the method says, if it is this one.
-    pub fn from_view(method: MethodRef<'a>) -> Option<UnbindView<'a>>
-        ensures args { IfSome result (λ m. unbind_view_call m ≡ lent_call method.entry) }
-        ensures when { IsSome result ↔ ((lent_call method.entry).kind ≡ ExchangeUnbind) }
-    {
-        if !is_view_of(method, Kind::ExchangeUnbind) {
-            return None;
-        }
-        Some(UnbindView::of_view(method))
-    }
+impl<'a> TypedView<'a> for UnbindView<'a> {
+    type Of = Unbind;
 
-    /// What a method of this kind says.
-    fn of_view(method: MethodRef<'a>) -> UnbindView<'a>
-        requires { Fits (lent_call method) × ((lent_call method).kind ≡ ExchangeUnbind) }
-        ensures { unbind_view_call result ≡ lent_call method.entry }
-    {
+    ghost shows = { unbind_view_call };
+
+    fn of_view(method: MethodRef<'a>) -> UnbindView<'a> {
         UnbindView {
             destination: short_str_in(method, 0),
             source: short_str_in(method, 1),
@@ -624,13 +548,13 @@ impl AnyMethod {
         ensures { any_call result ≡ method_view method }
     {
         match method.kind() {
-            Kind::ExchangeDeclare => AnyMethod::Declare(Declare::from_method(method).unwrap()),
+            Kind::ExchangeDeclare => AnyMethod::Declare(Declare::of_method(method)),
             Kind::ExchangeDeclareOk => AnyMethod::DeclareOk(DeclareOk::of_method(method)),
-            Kind::ExchangeDelete => AnyMethod::Delete(Delete::from_method(method).unwrap()),
+            Kind::ExchangeDelete => AnyMethod::Delete(Delete::of_method(method)),
             Kind::ExchangeDeleteOk => AnyMethod::DeleteOk(DeleteOk::of_method(method)),
-            Kind::ExchangeBind => AnyMethod::Bind(Bind::from_method(method).unwrap()),
+            Kind::ExchangeBind => AnyMethod::Bind(Bind::of_method(method)),
             Kind::ExchangeBindOk => AnyMethod::BindOk(BindOk::of_method(method)),
-            Kind::ExchangeUnbind => AnyMethod::Unbind(Unbind::from_method(method).unwrap()),
+            Kind::ExchangeUnbind => AnyMethod::Unbind(Unbind::of_method(method)),
             Kind::ExchangeUnbindOk => AnyMethod::UnbindOk(UnbindOk::of_method(method)),
             _ => unreachable!(),
         }

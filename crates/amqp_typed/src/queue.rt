@@ -1,8 +1,8 @@
 //! The methods of the class queue (`amqp0-9-1.xml`, class 50).
 // Written by `tools/typed_methods.py` from the table of methods in `docs/PROTOCOL.md`: change those and run it again.
-ghost use Rattle.std.specs.Prelude.{◌≡◌, ◌↔◌, IfOk, IfErr, IfSome, IsOk, IsSome, false, ◌∷◌, []};
+ghost use Rattle.std.specs.Prelude.{◌≡◌, IfOk, false, ◌∷◌, []};
 ghost use Rattle.amqp_value.specs.Values.{no_pairs};
-ghost use Rattle.amqp_method.specs.Arguments.{call, Fits, bit, long, short_string, table};
+ghost use Rattle.amqp_method.specs.Arguments.{call, bit, long, short_string, table};
 ghost use Rattle.amqp_method.specs.MethodRefView.{lent_call};
 ghost use Rattle.amqp_method.specs.MethodView.{method_view};
 ghost use Rattle.amqp_method.specs.Methods.{row};
@@ -10,12 +10,13 @@ ghost use Rattle.amqp_method.specs.declared.kinds.Kind.TheVariants.{QueueDeclare
 ghost use Rattle.amqp_typed.specs.Queue.{declare_call, declare_ok_call, bind_call, unbind_call, purge_call, purge_ok_call, delete_call, delete_ok_call, declare_ref_call, declare_ok_ref_call, bind_ref_call, unbind_ref_call, purge_ref_call, delete_ref_call, declare_view_call, declare_ok_view_call, bind_view_call, unbind_view_call, purge_view_call, delete_view_call, any_call, any_view_call};
 
 use crate::args::{
-    bit, bit_at, five, four, is_kind, long, long_at, method_of, own_args, seven, short_str,
-    short_str_at, table, table_at, three, two,
+    bit, bit_at, five, four, long, long_at, method_of, own_args, seven, short_str, short_str_at,
+    table, table_at, three, two,
 };
 use crate::bare::Bare;
 use crate::bare_kinds::{QueueBindOk, QueueUnbindOk};
-use crate::views::{bit_in, is_view_of, kind_in, long_in, short_str_in, table_in};
+use crate::typed::{Typed, TypedRef, TypedView};
+use crate::views::{bit_in, kind_in, long_in, short_str_in, table_in};
 use amqp_method::{Arg, Kind, Method, MethodRef, OutOfMemory};
 use amqp_value::{ShortStr, Table, TableRef};
 use std::alloc::Global;
@@ -56,11 +57,16 @@ impl Declare {
             arguments: Table::new(alloc),
         }
     }
+}
 
-    /// The method with these arguments.
-    pub fn into_method(self, alloc: Global) -> Result<Method, OutOfMemory>
-        ensures { IfOk result (λ m. method_view m ≡ declare_call self) }
-    {
+impl Typed for Declare {
+    ghost KIND = { QueueDeclare };
+
+    ghost says = { declare_call };
+
+    const KIND: Kind = Kind::QueueDeclare;
+
+    fn into_method(self, alloc: Global) -> Result<Method, OutOfMemory> {
         method_of(
             alloc,
             Kind::QueueDeclare,
@@ -76,26 +82,16 @@ impl Declare {
         )
     }
 
-    /// What the method says, or the method as it was if it is another.
-    pub fn from_method(method: Method) -> Result<Declare, Method>
-        ensures args { IfOk result (λ m. declare_call m ≡ method_view method) }
-        ensures when { IsOk result ↔ ((method_view method).kind ≡ QueueDeclare) }
-        ensures same { IfErr result (λ m. method_view m ≡ method_view method) }
-    {
-        match own_args(method, Kind::QueueDeclare) {
-            Ok(args) => {
-                let taken = seven(args);
-                Ok(Declare {
-                    queue: short_str(taken.0),
-                    passive: bit(taken.1),
-                    durable: bit(taken.2),
-                    exclusive: bit(taken.3),
-                    auto_delete: bit(taken.4),
-                    no_wait: bit(taken.5),
-                    arguments: table(taken.6),
-                })
-            }
-            Err(method) => Err(method),
+    fn of_method(method: Method) -> Declare {
+        let taken = seven(own_args(method, Kind::QueueDeclare));
+        Declare {
+            queue: short_str(taken.0),
+            passive: bit(taken.1),
+            durable: bit(taken.2),
+            exclusive: bit(taken.3),
+            auto_delete: bit(taken.4),
+            no_wait: bit(taken.5),
+            arguments: table(taken.6),
         }
     }
 }
@@ -112,16 +108,13 @@ pub struct DeclareRef<'a> {
     pub arguments: &'a Table,
 }
 
-impl<'a> DeclareRef<'a> {
-    /// What the method says, if it is this one.
-    pub fn from_method(method: &'a Method) -> Option<DeclareRef<'a>>
-        ensures args { IfSome result (λ m. declare_ref_call m ≡ method_view method.now) }
-        ensures when { IsSome result ↔ ((method_view method.now).kind ≡ QueueDeclare) }
-    {
-        if !is_kind(method, Kind::QueueDeclare) {
-            return None;
-        }
-        Some(DeclareRef {
+impl<'a> TypedRef<'a> for DeclareRef<'a> {
+    type Of = Declare;
+
+    ghost lends = { declare_ref_call };
+
+    fn of_ref(method: &'a Method) -> DeclareRef<'a> {
+        DeclareRef {
             queue: short_str_at(method, 0),
             passive: bit_at(method, 1),
             durable: bit_at(method, 2),
@@ -129,7 +122,7 @@ impl<'a> DeclareRef<'a> {
             auto_delete: bit_at(method, 4),
             no_wait: bit_at(method, 5),
             arguments: table_at(method, 6),
-        })
+        }
     }
 }
 
@@ -145,23 +138,12 @@ pub struct DeclareView<'a> {
     pub arguments: TableRef<'a>,
 }
 
-impl<'a> DeclareView<'a> {
-    /// What the method says, if it is this one.
-    pub fn from_view(method: MethodRef<'a>) -> Option<DeclareView<'a>>
-        ensures args { IfSome result (λ m. declare_view_call m ≡ lent_call method.entry) }
-        ensures when { IsSome result ↔ ((lent_call method.entry).kind ≡ QueueDeclare) }
-    {
-        if !is_view_of(method, Kind::QueueDeclare) {
-            return None;
-        }
-        Some(DeclareView::of_view(method))
-    }
+impl<'a> TypedView<'a> for DeclareView<'a> {
+    type Of = Declare;
 
-    /// What a method of this kind says.
-    fn of_view(method: MethodRef<'a>) -> DeclareView<'a>
-        requires { Fits (lent_call method) × ((lent_call method).kind ≡ QueueDeclare) }
-        ensures { declare_view_call result ≡ lent_call method.entry }
-    {
+    ghost shows = { declare_view_call };
+
+    fn of_view(method: MethodRef<'a>) -> DeclareView<'a> {
         DeclareView {
             queue: short_str_in(method, 0),
             passive: bit_in(method, 1),
@@ -195,11 +177,16 @@ impl DeclareOk {
             consumer_count,
         }
     }
+}
 
-    /// The method with these arguments.
-    pub fn into_method(self, alloc: Global) -> Result<Method, OutOfMemory>
-        ensures { IfOk result (λ m. method_view m ≡ declare_ok_call self) }
-    {
+impl Typed for DeclareOk {
+    ghost KIND = { QueueDeclareOk };
+
+    ghost says = { declare_ok_call };
+
+    const KIND: Kind = Kind::QueueDeclareOk;
+
+    fn into_method(self, alloc: Global) -> Result<Method, OutOfMemory> {
         method_of(
             alloc,
             Kind::QueueDeclareOk,
@@ -211,22 +198,12 @@ impl DeclareOk {
         )
     }
 
-    /// What the method says, or the method as it was if it is another.
-    pub fn from_method(method: Method) -> Result<DeclareOk, Method>
-        ensures args { IfOk result (λ m. declare_ok_call m ≡ method_view method) }
-        ensures when { IsOk result ↔ ((method_view method).kind ≡ QueueDeclareOk) }
-        ensures same { IfErr result (λ m. method_view m ≡ method_view method) }
-    {
-        match own_args(method, Kind::QueueDeclareOk) {
-            Ok(args) => {
-                let taken = three(args);
-                Ok(DeclareOk {
-                    queue: short_str(taken.0),
-                    message_count: long(taken.1),
-                    consumer_count: long(taken.2),
-                })
-            }
-            Err(method) => Err(method),
+    fn of_method(method: Method) -> DeclareOk {
+        let taken = three(own_args(method, Kind::QueueDeclareOk));
+        DeclareOk {
+            queue: short_str(taken.0),
+            message_count: long(taken.1),
+            consumer_count: long(taken.2),
         }
     }
 }
@@ -239,20 +216,17 @@ pub struct DeclareOkRef<'a> {
     pub consumer_count: u32,
 }
 
-impl<'a> DeclareOkRef<'a> {
-    /// What the method says, if it is this one.
-    pub fn from_method(method: &'a Method) -> Option<DeclareOkRef<'a>>
-        ensures args { IfSome result (λ m. declare_ok_ref_call m ≡ method_view method.now) }
-        ensures when { IsSome result ↔ ((method_view method.now).kind ≡ QueueDeclareOk) }
-    {
-        if !is_kind(method, Kind::QueueDeclareOk) {
-            return None;
-        }
-        Some(DeclareOkRef {
+impl<'a> TypedRef<'a> for DeclareOkRef<'a> {
+    type Of = DeclareOk;
+
+    ghost lends = { declare_ok_ref_call };
+
+    fn of_ref(method: &'a Method) -> DeclareOkRef<'a> {
+        DeclareOkRef {
             queue: short_str_at(method, 0),
             message_count: long_at(method, 1),
             consumer_count: long_at(method, 2),
-        })
+        }
     }
 }
 
@@ -264,23 +238,12 @@ pub struct DeclareOkView<'a> {
     pub consumer_count: u32,
 }
 
-impl<'a> DeclareOkView<'a> {
-    /// What the method says, if it is this one.
-    pub fn from_view(method: MethodRef<'a>) -> Option<DeclareOkView<'a>>
-        ensures args { IfSome result (λ m. declare_ok_view_call m ≡ lent_call method.entry) }
-        ensures when { IsSome result ↔ ((lent_call method.entry).kind ≡ QueueDeclareOk) }
-    {
-        if !is_view_of(method, Kind::QueueDeclareOk) {
-            return None;
-        }
-        Some(DeclareOkView::of_view(method))
-    }
+impl<'a> TypedView<'a> for DeclareOkView<'a> {
+    type Of = DeclareOk;
 
-    /// What a method of this kind says.
-    fn of_view(method: MethodRef<'a>) -> DeclareOkView<'a>
-        requires { Fits (lent_call method) × ((lent_call method).kind ≡ QueueDeclareOk) }
-        ensures { declare_ok_view_call result ≡ lent_call method.entry }
-    {
+    ghost shows = { declare_ok_view_call };
+
+    fn of_view(method: MethodRef<'a>) -> DeclareOkView<'a> {
         DeclareOkView {
             queue: short_str_in(method, 0),
             message_count: long_in(method, 1),
@@ -315,11 +278,16 @@ impl Bind {
             arguments: Table::new(alloc),
         }
     }
+}
 
-    /// The method with these arguments.
-    pub fn into_method(self, alloc: Global) -> Result<Method, OutOfMemory>
-        ensures { IfOk result (λ m. method_view m ≡ bind_call self) }
-    {
+impl Typed for Bind {
+    ghost KIND = { QueueBind };
+
+    ghost says = { bind_call };
+
+    const KIND: Kind = Kind::QueueBind;
+
+    fn into_method(self, alloc: Global) -> Result<Method, OutOfMemory> {
         method_of(
             alloc,
             Kind::QueueBind,
@@ -333,24 +301,14 @@ impl Bind {
         )
     }
 
-    /// What the method says, or the method as it was if it is another.
-    pub fn from_method(method: Method) -> Result<Bind, Method>
-        ensures args { IfOk result (λ m. bind_call m ≡ method_view method) }
-        ensures when { IsOk result ↔ ((method_view method).kind ≡ QueueBind) }
-        ensures same { IfErr result (λ m. method_view m ≡ method_view method) }
-    {
-        match own_args(method, Kind::QueueBind) {
-            Ok(args) => {
-                let taken = five(args);
-                Ok(Bind {
-                    queue: short_str(taken.0),
-                    exchange: short_str(taken.1),
-                    routing_key: short_str(taken.2),
-                    no_wait: bit(taken.3),
-                    arguments: table(taken.4),
-                })
-            }
-            Err(method) => Err(method),
+    fn of_method(method: Method) -> Bind {
+        let taken = five(own_args(method, Kind::QueueBind));
+        Bind {
+            queue: short_str(taken.0),
+            exchange: short_str(taken.1),
+            routing_key: short_str(taken.2),
+            no_wait: bit(taken.3),
+            arguments: table(taken.4),
         }
     }
 }
@@ -365,22 +323,19 @@ pub struct BindRef<'a> {
     pub arguments: &'a Table,
 }
 
-impl<'a> BindRef<'a> {
-    /// What the method says, if it is this one.
-    pub fn from_method(method: &'a Method) -> Option<BindRef<'a>>
-        ensures args { IfSome result (λ m. bind_ref_call m ≡ method_view method.now) }
-        ensures when { IsSome result ↔ ((method_view method.now).kind ≡ QueueBind) }
-    {
-        if !is_kind(method, Kind::QueueBind) {
-            return None;
-        }
-        Some(BindRef {
+impl<'a> TypedRef<'a> for BindRef<'a> {
+    type Of = Bind;
+
+    ghost lends = { bind_ref_call };
+
+    fn of_ref(method: &'a Method) -> BindRef<'a> {
+        BindRef {
             queue: short_str_at(method, 0),
             exchange: short_str_at(method, 1),
             routing_key: short_str_at(method, 2),
             no_wait: bit_at(method, 3),
             arguments: table_at(method, 4),
-        })
+        }
     }
 }
 
@@ -394,23 +349,12 @@ pub struct BindView<'a> {
     pub arguments: TableRef<'a>,
 }
 
-impl<'a> BindView<'a> {
-    /// What the method says, if it is this one.
-    pub fn from_view(method: MethodRef<'a>) -> Option<BindView<'a>>
-        ensures args { IfSome result (λ m. bind_view_call m ≡ lent_call method.entry) }
-        ensures when { IsSome result ↔ ((lent_call method.entry).kind ≡ QueueBind) }
-    {
-        if !is_view_of(method, Kind::QueueBind) {
-            return None;
-        }
-        Some(BindView::of_view(method))
-    }
+impl<'a> TypedView<'a> for BindView<'a> {
+    type Of = Bind;
 
-    /// What a method of this kind says.
-    fn of_view(method: MethodRef<'a>) -> BindView<'a>
-        requires { Fits (lent_call method) × ((lent_call method).kind ≡ QueueBind) }
-        ensures { bind_view_call result ≡ lent_call method.entry }
-    {
+    ghost shows = { bind_view_call };
+
+    fn of_view(method: MethodRef<'a>) -> BindView<'a> {
         BindView {
             queue: short_str_in(method, 0),
             exchange: short_str_in(method, 1),
@@ -447,11 +391,16 @@ impl Unbind {
             arguments: Table::new(alloc),
         }
     }
+}
 
-    /// The method with these arguments.
-    pub fn into_method(self, alloc: Global) -> Result<Method, OutOfMemory>
-        ensures { IfOk result (λ m. method_view m ≡ unbind_call self) }
-    {
+impl Typed for Unbind {
+    ghost KIND = { QueueUnbind };
+
+    ghost says = { unbind_call };
+
+    const KIND: Kind = Kind::QueueUnbind;
+
+    fn into_method(self, alloc: Global) -> Result<Method, OutOfMemory> {
         method_of(
             alloc,
             Kind::QueueUnbind,
@@ -464,23 +413,13 @@ impl Unbind {
         )
     }
 
-    /// What the method says, or the method as it was if it is another.
-    pub fn from_method(method: Method) -> Result<Unbind, Method>
-        ensures args { IfOk result (λ m. unbind_call m ≡ method_view method) }
-        ensures when { IsOk result ↔ ((method_view method).kind ≡ QueueUnbind) }
-        ensures same { IfErr result (λ m. method_view m ≡ method_view method) }
-    {
-        match own_args(method, Kind::QueueUnbind) {
-            Ok(args) => {
-                let taken = four(args);
-                Ok(Unbind {
-                    queue: short_str(taken.0),
-                    exchange: short_str(taken.1),
-                    routing_key: short_str(taken.2),
-                    arguments: table(taken.3),
-                })
-            }
-            Err(method) => Err(method),
+    fn of_method(method: Method) -> Unbind {
+        let taken = four(own_args(method, Kind::QueueUnbind));
+        Unbind {
+            queue: short_str(taken.0),
+            exchange: short_str(taken.1),
+            routing_key: short_str(taken.2),
+            arguments: table(taken.3),
         }
     }
 }
@@ -494,21 +433,18 @@ pub struct UnbindRef<'a> {
     pub arguments: &'a Table,
 }
 
-impl<'a> UnbindRef<'a> {
-    /// What the method says, if it is this one.
-    pub fn from_method(method: &'a Method) -> Option<UnbindRef<'a>>
-        ensures args { IfSome result (λ m. unbind_ref_call m ≡ method_view method.now) }
-        ensures when { IsSome result ↔ ((method_view method.now).kind ≡ QueueUnbind) }
-    {
-        if !is_kind(method, Kind::QueueUnbind) {
-            return None;
-        }
-        Some(UnbindRef {
+impl<'a> TypedRef<'a> for UnbindRef<'a> {
+    type Of = Unbind;
+
+    ghost lends = { unbind_ref_call };
+
+    fn of_ref(method: &'a Method) -> UnbindRef<'a> {
+        UnbindRef {
             queue: short_str_at(method, 0),
             exchange: short_str_at(method, 1),
             routing_key: short_str_at(method, 2),
             arguments: table_at(method, 3),
-        })
+        }
     }
 }
 
@@ -521,23 +457,12 @@ pub struct UnbindView<'a> {
     pub arguments: TableRef<'a>,
 }
 
-impl<'a> UnbindView<'a> {
-    /// What the method says, if it is this one.
-    pub fn from_view(method: MethodRef<'a>) -> Option<UnbindView<'a>>
-        ensures args { IfSome result (λ m. unbind_view_call m ≡ lent_call method.entry) }
-        ensures when { IsSome result ↔ ((lent_call method.entry).kind ≡ QueueUnbind) }
-    {
-        if !is_view_of(method, Kind::QueueUnbind) {
-            return None;
-        }
-        Some(UnbindView::of_view(method))
-    }
+impl<'a> TypedView<'a> for UnbindView<'a> {
+    type Of = Unbind;
 
-    /// What a method of this kind says.
-    fn of_view(method: MethodRef<'a>) -> UnbindView<'a>
-        requires { Fits (lent_call method) × ((lent_call method).kind ≡ QueueUnbind) }
-        ensures { unbind_view_call result ≡ lent_call method.entry }
-    {
+    ghost shows = { unbind_view_call };
+
+    fn of_view(method: MethodRef<'a>) -> UnbindView<'a> {
         UnbindView {
             queue: short_str_in(method, 0),
             exchange: short_str_in(method, 1),
@@ -568,11 +493,16 @@ impl Purge {
             no_wait: false,
         }
     }
+}
 
-    /// The method with these arguments.
-    pub fn into_method(self, alloc: Global) -> Result<Method, OutOfMemory>
-        ensures { IfOk result (λ m. method_view m ≡ purge_call self) }
-    {
+impl Typed for Purge {
+    ghost KIND = { QueuePurge };
+
+    ghost says = { purge_call };
+
+    const KIND: Kind = Kind::QueuePurge;
+
+    fn into_method(self, alloc: Global) -> Result<Method, OutOfMemory> {
         method_of(
             alloc,
             Kind::QueuePurge,
@@ -580,21 +510,11 @@ impl Purge {
         )
     }
 
-    /// What the method says, or the method as it was if it is another.
-    pub fn from_method(method: Method) -> Result<Purge, Method>
-        ensures args { IfOk result (λ m. purge_call m ≡ method_view method) }
-        ensures when { IsOk result ↔ ((method_view method).kind ≡ QueuePurge) }
-        ensures same { IfErr result (λ m. method_view m ≡ method_view method) }
-    {
-        match own_args(method, Kind::QueuePurge) {
-            Ok(args) => {
-                let taken = two(args);
-                Ok(Purge {
-                    queue: short_str(taken.0),
-                    no_wait: bit(taken.1),
-                })
-            }
-            Err(method) => Err(method),
+    fn of_method(method: Method) -> Purge {
+        let taken = two(own_args(method, Kind::QueuePurge));
+        Purge {
+            queue: short_str(taken.0),
+            no_wait: bit(taken.1),
         }
     }
 }
@@ -606,19 +526,16 @@ pub struct PurgeRef<'a> {
     pub no_wait: bool,
 }
 
-impl<'a> PurgeRef<'a> {
-    /// What the method says, if it is this one.
-    pub fn from_method(method: &'a Method) -> Option<PurgeRef<'a>>
-        ensures args { IfSome result (λ m. purge_ref_call m ≡ method_view method.now) }
-        ensures when { IsSome result ↔ ((method_view method.now).kind ≡ QueuePurge) }
-    {
-        if !is_kind(method, Kind::QueuePurge) {
-            return None;
-        }
-        Some(PurgeRef {
+impl<'a> TypedRef<'a> for PurgeRef<'a> {
+    type Of = Purge;
+
+    ghost lends = { purge_ref_call };
+
+    fn of_ref(method: &'a Method) -> PurgeRef<'a> {
+        PurgeRef {
             queue: short_str_at(method, 0),
             no_wait: bit_at(method, 1),
-        })
+        }
     }
 }
 
@@ -629,23 +546,12 @@ pub struct PurgeView<'a> {
     pub no_wait: bool,
 }
 
-impl<'a> PurgeView<'a> {
-    /// What the method says, if it is this one.
-    pub fn from_view(method: MethodRef<'a>) -> Option<PurgeView<'a>>
-        ensures args { IfSome result (λ m. purge_view_call m ≡ lent_call method.entry) }
-        ensures when { IsSome result ↔ ((lent_call method.entry).kind ≡ QueuePurge) }
-    {
-        if !is_view_of(method, Kind::QueuePurge) {
-            return None;
-        }
-        Some(PurgeView::of_view(method))
-    }
+impl<'a> TypedView<'a> for PurgeView<'a> {
+    type Of = Purge;
 
-    /// What a method of this kind says.
-    fn of_view(method: MethodRef<'a>) -> PurgeView<'a>
-        requires { Fits (lent_call method) × ((lent_call method).kind ≡ QueuePurge) }
-        ensures { purge_view_call result ≡ lent_call method.entry }
-    {
+    ghost shows = { purge_view_call };
+
+    fn of_view(method: MethodRef<'a>) -> PurgeView<'a> {
         PurgeView {
             queue: short_str_in(method, 0),
             no_wait: bit_in(method, 1),
@@ -666,50 +572,45 @@ impl PurgeOk {
     {
         PurgeOk { message_count }
     }
+}
 
-    /// The method with these arguments.
-    pub fn into_method(self, alloc: Global) -> Result<Method, OutOfMemory>
-        ensures { IfOk result (λ m. method_view m ≡ purge_ok_call self) }
-    {
+impl Typed for PurgeOk {
+    ghost KIND = { QueuePurgeOk };
+
+    ghost says = { purge_ok_call };
+
+    const KIND: Kind = Kind::QueuePurgeOk;
+
+    fn into_method(self, alloc: Global) -> Result<Method, OutOfMemory> {
         method_of(alloc, Kind::QueuePurgeOk, [Arg::Long(self.message_count)])
     }
 
-    /// What the method says, or the method as it was if it is another.
-    pub fn from_method(method: Method) -> Result<PurgeOk, Method>
-        ensures args { IfOk result (λ m. purge_ok_call m ≡ method_view method) }
-        ensures when { IsOk result ↔ ((method_view method).kind ≡ QueuePurgeOk) }
-        ensures same { IfErr result (λ m. method_view m ≡ method_view method) }
-    {
-        match PurgeOk::from_ref(&method) {
-            Some(purge_ok) => Ok(purge_ok),
-            None => Err(method),
-        }
+    fn of_method(method: Method) -> PurgeOk {
+        PurgeOk::of_ref(&method)
     }
+}
 
-    /// What the method says, if it is this one.
-    pub fn from_ref(method: &Method) -> Option<PurgeOk>
-        ensures args { IfSome result (λ m. purge_ok_call m ≡ method_view method.now) }
-        ensures when { IsSome result ↔ ((method_view method.now).kind ≡ QueuePurgeOk) }
-    {
-        if !is_kind(method, Kind::QueuePurgeOk) {
-            return None;
-        }
-        Some(PurgeOk {
+impl<'a> TypedRef<'a> for PurgeOk {
+    type Of = PurgeOk;
+
+    ghost lends = { purge_ok_call };
+
+    fn of_ref(method: &'a Method) -> PurgeOk {
+        PurgeOk {
             message_count: long_at(method, 0),
-        })
-    }
-
-    /// What the method says, if it is this one.
-    pub fn from_view(method: MethodRef<'_>) -> Option<PurgeOk>
-        ensures args { IfSome result (λ m. purge_ok_call m ≡ lent_call method.entry) }
-        ensures when { IsSome result ↔ ((lent_call method.entry).kind ≡ QueuePurgeOk) }
-    {
-        if !is_view_of(method, Kind::QueuePurgeOk) {
-            return None;
         }
-        Some(PurgeOk {
+    }
+}
+
+impl<'a> TypedView<'a> for PurgeOk {
+    type Of = PurgeOk;
+
+    ghost shows = { purge_ok_call };
+
+    fn of_view(method: MethodRef<'a>) -> PurgeOk {
+        PurgeOk {
             message_count: long_in(method, 0),
-        })
+        }
     }
 }
 
@@ -738,11 +639,16 @@ impl Delete {
             no_wait: false,
         }
     }
+}
 
-    /// The method with these arguments.
-    pub fn into_method(self, alloc: Global) -> Result<Method, OutOfMemory>
-        ensures { IfOk result (λ m. method_view m ≡ delete_call self) }
-    {
+impl Typed for Delete {
+    ghost KIND = { QueueDelete };
+
+    ghost says = { delete_call };
+
+    const KIND: Kind = Kind::QueueDelete;
+
+    fn into_method(self, alloc: Global) -> Result<Method, OutOfMemory> {
         method_of(
             alloc,
             Kind::QueueDelete,
@@ -755,23 +661,13 @@ impl Delete {
         )
     }
 
-    /// What the method says, or the method as it was if it is another.
-    pub fn from_method(method: Method) -> Result<Delete, Method>
-        ensures args { IfOk result (λ m. delete_call m ≡ method_view method) }
-        ensures when { IsOk result ↔ ((method_view method).kind ≡ QueueDelete) }
-        ensures same { IfErr result (λ m. method_view m ≡ method_view method) }
-    {
-        match own_args(method, Kind::QueueDelete) {
-            Ok(args) => {
-                let taken = four(args);
-                Ok(Delete {
-                    queue: short_str(taken.0),
-                    if_unused: bit(taken.1),
-                    if_empty: bit(taken.2),
-                    no_wait: bit(taken.3),
-                })
-            }
-            Err(method) => Err(method),
+    fn of_method(method: Method) -> Delete {
+        let taken = four(own_args(method, Kind::QueueDelete));
+        Delete {
+            queue: short_str(taken.0),
+            if_unused: bit(taken.1),
+            if_empty: bit(taken.2),
+            no_wait: bit(taken.3),
         }
     }
 }
@@ -785,21 +681,18 @@ pub struct DeleteRef<'a> {
     pub no_wait: bool,
 }
 
-impl<'a> DeleteRef<'a> {
-    /// What the method says, if it is this one.
-    pub fn from_method(method: &'a Method) -> Option<DeleteRef<'a>>
-        ensures args { IfSome result (λ m. delete_ref_call m ≡ method_view method.now) }
-        ensures when { IsSome result ↔ ((method_view method.now).kind ≡ QueueDelete) }
-    {
-        if !is_kind(method, Kind::QueueDelete) {
-            return None;
-        }
-        Some(DeleteRef {
+impl<'a> TypedRef<'a> for DeleteRef<'a> {
+    type Of = Delete;
+
+    ghost lends = { delete_ref_call };
+
+    fn of_ref(method: &'a Method) -> DeleteRef<'a> {
+        DeleteRef {
             queue: short_str_at(method, 0),
             if_unused: bit_at(method, 1),
             if_empty: bit_at(method, 2),
             no_wait: bit_at(method, 3),
-        })
+        }
     }
 }
 
@@ -812,23 +705,12 @@ pub struct DeleteView<'a> {
     pub no_wait: bool,
 }
 
-impl<'a> DeleteView<'a> {
-    /// What the method says, if it is this one.
-    pub fn from_view(method: MethodRef<'a>) -> Option<DeleteView<'a>>
-        ensures args { IfSome result (λ m. delete_view_call m ≡ lent_call method.entry) }
-        ensures when { IsSome result ↔ ((lent_call method.entry).kind ≡ QueueDelete) }
-    {
-        if !is_view_of(method, Kind::QueueDelete) {
-            return None;
-        }
-        Some(DeleteView::of_view(method))
-    }
+impl<'a> TypedView<'a> for DeleteView<'a> {
+    type Of = Delete;
 
-    /// What a method of this kind says.
-    fn of_view(method: MethodRef<'a>) -> DeleteView<'a>
-        requires { Fits (lent_call method) × ((lent_call method).kind ≡ QueueDelete) }
-        ensures { delete_view_call result ≡ lent_call method.entry }
-    {
+    ghost shows = { delete_view_call };
+
+    fn of_view(method: MethodRef<'a>) -> DeleteView<'a> {
         DeleteView {
             queue: short_str_in(method, 0),
             if_unused: bit_in(method, 1),
@@ -851,50 +733,45 @@ impl DeleteOk {
     {
         DeleteOk { message_count }
     }
+}
 
-    /// The method with these arguments.
-    pub fn into_method(self, alloc: Global) -> Result<Method, OutOfMemory>
-        ensures { IfOk result (λ m. method_view m ≡ delete_ok_call self) }
-    {
+impl Typed for DeleteOk {
+    ghost KIND = { QueueDeleteOk };
+
+    ghost says = { delete_ok_call };
+
+    const KIND: Kind = Kind::QueueDeleteOk;
+
+    fn into_method(self, alloc: Global) -> Result<Method, OutOfMemory> {
         method_of(alloc, Kind::QueueDeleteOk, [Arg::Long(self.message_count)])
     }
 
-    /// What the method says, or the method as it was if it is another.
-    pub fn from_method(method: Method) -> Result<DeleteOk, Method>
-        ensures args { IfOk result (λ m. delete_ok_call m ≡ method_view method) }
-        ensures when { IsOk result ↔ ((method_view method).kind ≡ QueueDeleteOk) }
-        ensures same { IfErr result (λ m. method_view m ≡ method_view method) }
-    {
-        match DeleteOk::from_ref(&method) {
-            Some(delete_ok) => Ok(delete_ok),
-            None => Err(method),
-        }
+    fn of_method(method: Method) -> DeleteOk {
+        DeleteOk::of_ref(&method)
     }
+}
 
-    /// What the method says, if it is this one.
-    pub fn from_ref(method: &Method) -> Option<DeleteOk>
-        ensures args { IfSome result (λ m. delete_ok_call m ≡ method_view method.now) }
-        ensures when { IsSome result ↔ ((method_view method.now).kind ≡ QueueDeleteOk) }
-    {
-        if !is_kind(method, Kind::QueueDeleteOk) {
-            return None;
-        }
-        Some(DeleteOk {
+impl<'a> TypedRef<'a> for DeleteOk {
+    type Of = DeleteOk;
+
+    ghost lends = { delete_ok_call };
+
+    fn of_ref(method: &'a Method) -> DeleteOk {
+        DeleteOk {
             message_count: long_at(method, 0),
-        })
-    }
-
-    /// What the method says, if it is this one.
-    pub fn from_view(method: MethodRef<'_>) -> Option<DeleteOk>
-        ensures args { IfSome result (λ m. delete_ok_call m ≡ lent_call method.entry) }
-        ensures when { IsSome result ↔ ((lent_call method.entry).kind ≡ QueueDeleteOk) }
-    {
-        if !is_view_of(method, Kind::QueueDeleteOk) {
-            return None;
         }
-        Some(DeleteOk {
+    }
+}
+
+impl<'a> TypedView<'a> for DeleteOk {
+    type Of = DeleteOk;
+
+    ghost shows = { delete_ok_call };
+
+    fn of_view(method: MethodRef<'a>) -> DeleteOk {
+        DeleteOk {
             message_count: long_in(method, 0),
-        })
+        }
     }
 }
 
@@ -937,16 +814,16 @@ impl AnyMethod {
         ensures { any_call result ≡ method_view method }
     {
         match method.kind() {
-            Kind::QueueDeclare => AnyMethod::Declare(Declare::from_method(method).unwrap()),
-            Kind::QueueDeclareOk => AnyMethod::DeclareOk(DeclareOk::from_method(method).unwrap()),
-            Kind::QueueBind => AnyMethod::Bind(Bind::from_method(method).unwrap()),
+            Kind::QueueDeclare => AnyMethod::Declare(Declare::of_method(method)),
+            Kind::QueueDeclareOk => AnyMethod::DeclareOk(DeclareOk::of_method(method)),
+            Kind::QueueBind => AnyMethod::Bind(Bind::of_method(method)),
             Kind::QueueBindOk => AnyMethod::BindOk(BindOk::of_method(method)),
-            Kind::QueueUnbind => AnyMethod::Unbind(Unbind::from_method(method).unwrap()),
+            Kind::QueueUnbind => AnyMethod::Unbind(Unbind::of_method(method)),
             Kind::QueueUnbindOk => AnyMethod::UnbindOk(UnbindOk::of_method(method)),
-            Kind::QueuePurge => AnyMethod::Purge(Purge::from_method(method).unwrap()),
-            Kind::QueuePurgeOk => AnyMethod::PurgeOk(PurgeOk::from_method(method).unwrap()),
-            Kind::QueueDelete => AnyMethod::Delete(Delete::from_method(method).unwrap()),
-            Kind::QueueDeleteOk => AnyMethod::DeleteOk(DeleteOk::from_method(method).unwrap()),
+            Kind::QueuePurge => AnyMethod::Purge(Purge::of_method(method)),
+            Kind::QueuePurgeOk => AnyMethod::PurgeOk(PurgeOk::of_method(method)),
+            Kind::QueueDelete => AnyMethod::Delete(Delete::of_method(method)),
+            Kind::QueueDeleteOk => AnyMethod::DeleteOk(DeleteOk::of_method(method)),
             _ => unreachable!(),
         }
     }
@@ -1034,9 +911,9 @@ impl<'a> AnyMethodView<'a> {
             Kind::QueueUnbind => AnyMethodView::Unbind(UnbindView::of_view(method)),
             Kind::QueueUnbindOk => AnyMethodView::UnbindOk(UnbindOk::of_view(method)),
             Kind::QueuePurge => AnyMethodView::Purge(PurgeView::of_view(method)),
-            Kind::QueuePurgeOk => AnyMethodView::PurgeOk(PurgeOk::from_view(method).unwrap()),
+            Kind::QueuePurgeOk => AnyMethodView::PurgeOk(PurgeOk::of_view(method)),
             Kind::QueueDelete => AnyMethodView::Delete(DeleteView::of_view(method)),
-            Kind::QueueDeleteOk => AnyMethodView::DeleteOk(DeleteOk::from_view(method).unwrap()),
+            Kind::QueueDeleteOk => AnyMethodView::DeleteOk(DeleteOk::of_view(method)),
             _ => unreachable!(),
         }
     }

@@ -8,6 +8,8 @@ ghost use Rattle.amqp_typed.specs.Tx.{any_call};
 
 use crate::bare::Bare;
 use crate::bare_kinds::{TxCommit, TxCommitOk, TxRollback, TxRollbackOk, TxSelect, TxSelectOk};
+use crate::typed::{Typed, TypedView};
+use crate::views::kind_in;
 use amqp_method::{Kind, Method, MethodRef, OutOfMemory};
 use std::alloc::Global;
 use std::fmt;
@@ -90,7 +92,7 @@ impl AnyMethod {
         requires { (row (lent_call method).kind).class ≡ 90 }
         ensures { any_call result ≡ lent_call method.entry }
     {
-        match method.kind() {
+        match kind_in(method) {
             Kind::TxSelect => AnyMethod::Select(Select::of_view(method)),
             Kind::TxSelectOk => AnyMethod::SelectOk(SelectOk::of_view(method)),
             Kind::TxCommit => AnyMethod::Commit(Commit::of_view(method)),

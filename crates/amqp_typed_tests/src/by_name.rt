@@ -1,7 +1,7 @@
 //! Ten operations by the structs of `amqp_typed`: the same as those of [`by_place`](crate::by_place).
 use crate::showing::text;
 use amqp_method::{Message, Method, Properties};
-use amqp_typed::{basic, channel, delivery_mode, queue};
+use amqp_typed::{Typed, TypedRef, basic, channel, delivery_mode, queue};
 use amqp_value::Value;
 use std::alloc::Global;
 use std::test::Fail;
@@ -45,7 +45,7 @@ pub(crate) fn qos(alloc: Global) -> Result<Method, Fail> {
 
 /// Why a message came back, and the length of its routing key.
 pub(crate) fn returned(method: &Method) -> Option<(u16, usize)> {
-    let returned = basic::ReturnRef::from_method(method)?;
+    let returned = basic::ReturnRef::from_ref(method)?;
     Some((returned.reply_code, returned.routing_key.len()))
 }
 

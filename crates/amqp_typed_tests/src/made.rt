@@ -1,7 +1,7 @@
 //! Methods made by their fields, and fields that are lent.
 use crate::showing::{assert_method, text};
 use amqp_method::{Kind, Method, read_method};
-use amqp_typed::{basic, connection, exchange, queue, tx};
+use amqp_typed::{Typed, TypedRef, basic, connection, exchange, queue, tx};
 use std::alloc::Global;
 use std::test::Fail;
 
@@ -97,7 +97,7 @@ fn is_delivery(deliver: basic::DeliverRef<'_>) -> bool {
 }
 
 fn lends_delivery(method: &Method) -> bool {
-    match basic::DeliverRef::from_method(method) {
+    match basic::DeliverRef::from_ref(method) {
         Some(deliver) => is_delivery(deliver),
         None => false,
     }
@@ -115,7 +115,7 @@ fn comes_back(method: Method) -> bool {
     match tx::Select::from_method(method) {
         Ok(_) => false,
         Err(other) => {
-            other.kind() == Kind::BasicDeliver && queue::DeclareRef::from_method(&other).is_none()
+            other.kind() == Kind::BasicDeliver && queue::DeclareRef::from_ref(&other).is_none()
         }
     }
 }

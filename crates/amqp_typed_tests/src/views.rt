@@ -1,7 +1,7 @@
 //! Methods by name as they lie in their payloads. The octets are written from the profile's table of methods.
 use crate::samples::{BASIC, CHANNEL, CONFIRM, CONNECTION, EXCHANGE, QUEUE, Sample, TX};
 use amqp_method::{Kind, MethodRef};
-use amqp_typed::{AnyMethodView, basic, connection, queue, tx};
+use amqp_typed::{AnyMethodView, TypedView, basic, connection, queue, tx};
 use amqp_value::TableRef;
 use std::alloc::Global;
 use std::process::Abort;

@@ -5,6 +5,7 @@ use crate::channel::{Channel, Delivery};
 use crate::fault::{Done, Fault};
 use crate::queues::{Queue, count};
 use amqp_core::{AskFault, End, Server};
+use amqp_typed::Typed;
 use amqp_typed::basic::{Deliver, GetOk};
 use amqp_value::ShortStr;
 use example_loop::{FULL, Link, server_end};

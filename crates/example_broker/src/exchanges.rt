@@ -8,7 +8,7 @@ use crate::queues::{Place, QueueId};
 use crate::topic::topic_matches;
 use amqp_method::reply;
 use amqp_typed::exchange::{self, Declare};
-use amqp_typed::queue;
+use amqp_typed::{Typed, queue};
 use amqp_value::{ShortStr, Table, Value};
 use std::alloc::{AllocError, Global};
 use std::collections::BTreeMap;

@@ -3,6 +3,7 @@ use crate::connection::Connection;
 use crate::fault::Done;
 use amqp_core::AskFault;
 use amqp_method::{Kind, reply};
+use amqp_typed::TypedRef;
 use amqp_typed::connection::{OpenRef, StartOkRef};
 use amqp_value::{ShortStr, Value, read_table};
 use std::alloc::Global;
@@ -35,7 +36,7 @@ impl Connection {
     pub fn login(&mut self) -> Done {
         let start = self.link.end.heard(Kind::ConnectionStartOk);
         let start = start
-            .and_then(StartOkRef::from_method)
+            .and_then(StartOkRef::from_ref)
             .ok_or(AskFault::NotAwaited)?;
         let hears = start
             .capabilities()
@@ -49,7 +50,7 @@ impl Connection {
     pub fn enter(&mut self) -> Done {
         let open = self.link.end.heard(Kind::ConnectionOpen);
         let open = open
-            .and_then(OpenRef::from_method)
+            .and_then(OpenRef::from_ref)
             .ok_or(AskFault::NotAwaited)?;
         let is_host = open.virtual_host.as_bytes() == b"/".as_slice();
         self.admit(is_host, reply::NOT_ALLOWED, "no such host")

@@ -7,7 +7,7 @@ use crate::messages::Content;
 use crate::queues::Place;
 use amqp_core::AskFault;
 use amqp_method::reply;
-use amqp_typed::{basic, confirm};
+use amqp_typed::{Typed, basic, confirm};
 use amqp_value::ShortStr;
 use std::rc::Rc;
 

@@ -5,6 +5,7 @@ use crate::exchanges::check_not_reserved;
 use crate::fault::{Answer, Done, Fault, answer, refused};
 use crate::messages::Messages;
 use amqp_method::reply;
+use amqp_typed::Typed;
 use amqp_typed::queue::{self, Declare};
 use amqp_value::{ShortStr, Table};
 use std::alloc::Global;

@@ -4,7 +4,7 @@
 use amqp_method::{
     Header, Message, Method, OutOfMemory, Properties, read_method, write_header, write_method,
 };
-use amqp_typed::{basic, channel, confirm, delivery_mode, queue};
+use amqp_typed::{Typed, TypedRef, basic, channel, confirm, delivery_mode, queue};
 use amqp_value::{ShortStr, Table, Value, ValueFault};
 use anyhow::{Result, bail};
 use std::alloc::Global;
@@ -84,7 +84,7 @@ fn forward(alloc: Global, deliver: Method) -> Result<Message> {
 
 /// Why a message came back. What the method holds is only lent.
 fn tell_return(rt: &impl Print, method: &Method) -> Result<()> {
-    let Some(returned) = basic::ReturnRef::from_method(method) else {
+    let Some(returned) = basic::ReturnRef::from_ref(method) else {
         bail!("no return");
     };
     println!(rt;

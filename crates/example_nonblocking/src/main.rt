@@ -10,6 +10,7 @@ use amqp_core::{
     SendQueue, Server, ServerHello, StreamEnd,
 };
 use amqp_method::Properties;
+use amqp_typed::Typed;
 use amqp_typed::basic::Publish;
 use amqp_value::{ShortStr, Table};
 use anyhow::{Result, bail};

@@ -1,71 +1,71 @@
 use Rattle.std.proofs.Common.{sym, ◌∙◌}
 use Rattle.amqp_typed.proofs.basic.AnyMethod.from_method.Goals as goal
 
-pub unwrap-requires : goal.unwrap-requires
-unwrap-requires c = c.from_method.ensures.when.1 (sym c.kind.ensures ∙ c.in-BasicQos.is)
+pub of_method-requires : goal.of_method-requires
+of_method-requires c = sym c.kind.ensures ∙ c.in-BasicQos.is
 
 pub returns-in-BasicQos : goal.returns-in-BasicQos
-returns-in-BasicQos c = rw c.unwrap.ensures at c.from_method.ensures.args
+returns-in-BasicQos c = c.of_method.ensures
 
-pub of_method-requires : goal.of_method-requires
-of_method-requires c = sym c.kind.ensures ∙ c.in-BasicQosOk.is
+pub of_method-requires-in-BasicQosOk : goal.of_method-requires-in-BasicQosOk
+of_method-requires-in-BasicQosOk c = sym c.kind.ensures ∙ c.in-BasicQosOk.is
 
 pub returns-in-BasicQosOk : goal.returns-in-BasicQosOk
-returns-in-BasicQosOk c = c.of_method.ensures
+returns-in-BasicQosOk c = c.of_method-in-BasicQosOk.ensures
 
-pub unwrap-requires-in-BasicConsume : goal.unwrap-requires-in-BasicConsume
-unwrap-requires-in-BasicConsume c = c.from_method-in-BasicConsume.ensures.when.1 (sym c.kind.ensures ∙ c.in-BasicConsume.is)
+pub of_method-requires-in-BasicConsume : goal.of_method-requires-in-BasicConsume
+of_method-requires-in-BasicConsume c = sym c.kind.ensures ∙ c.in-BasicConsume.is
 
 pub returns-in-BasicConsume : goal.returns-in-BasicConsume
-returns-in-BasicConsume c = rw c.unwrap-in-BasicConsume.ensures at c.from_method-in-BasicConsume.ensures.args
+returns-in-BasicConsume c = c.of_method-in-BasicConsume.ensures
 
-pub unwrap-requires-in-BasicConsumeOk : goal.unwrap-requires-in-BasicConsumeOk
-unwrap-requires-in-BasicConsumeOk c = c.from_method-in-BasicConsumeOk.ensures.when.1 (sym c.kind.ensures ∙ c.in-BasicConsumeOk.is)
+pub of_method-requires-in-BasicConsumeOk : goal.of_method-requires-in-BasicConsumeOk
+of_method-requires-in-BasicConsumeOk c = sym c.kind.ensures ∙ c.in-BasicConsumeOk.is
 
 pub returns-in-BasicConsumeOk : goal.returns-in-BasicConsumeOk
-returns-in-BasicConsumeOk c = rw c.unwrap-in-BasicConsumeOk.ensures at c.from_method-in-BasicConsumeOk.ensures.args
+returns-in-BasicConsumeOk c = c.of_method-in-BasicConsumeOk.ensures
 
-pub unwrap-requires-in-BasicCancel : goal.unwrap-requires-in-BasicCancel
-unwrap-requires-in-BasicCancel c = c.from_method-in-BasicCancel.ensures.when.1 (sym c.kind.ensures ∙ c.in-BasicCancel.is)
+pub of_method-requires-in-BasicCancel : goal.of_method-requires-in-BasicCancel
+of_method-requires-in-BasicCancel c = sym c.kind.ensures ∙ c.in-BasicCancel.is
 
 pub returns-in-BasicCancel : goal.returns-in-BasicCancel
-returns-in-BasicCancel c = rw c.unwrap-in-BasicCancel.ensures at c.from_method-in-BasicCancel.ensures.args
+returns-in-BasicCancel c = c.of_method-in-BasicCancel.ensures
 
-pub unwrap-requires-in-BasicCancelOk : goal.unwrap-requires-in-BasicCancelOk
-unwrap-requires-in-BasicCancelOk c = c.from_method-in-BasicCancelOk.ensures.when.1 (sym c.kind.ensures ∙ c.in-BasicCancelOk.is)
+pub of_method-requires-in-BasicCancelOk : goal.of_method-requires-in-BasicCancelOk
+of_method-requires-in-BasicCancelOk c = sym c.kind.ensures ∙ c.in-BasicCancelOk.is
 
 pub returns-in-BasicCancelOk : goal.returns-in-BasicCancelOk
-returns-in-BasicCancelOk c = rw c.unwrap-in-BasicCancelOk.ensures at c.from_method-in-BasicCancelOk.ensures.args
+returns-in-BasicCancelOk c = c.of_method-in-BasicCancelOk.ensures
 
-pub unwrap-requires-in-BasicPublish : goal.unwrap-requires-in-BasicPublish
-unwrap-requires-in-BasicPublish c = c.from_method-in-BasicPublish.ensures.when.1 (sym c.kind.ensures ∙ c.in-BasicPublish.is)
+pub of_method-requires-in-BasicPublish : goal.of_method-requires-in-BasicPublish
+of_method-requires-in-BasicPublish c = sym c.kind.ensures ∙ c.in-BasicPublish.is
 
 pub returns-in-BasicPublish : goal.returns-in-BasicPublish
-returns-in-BasicPublish c = rw c.unwrap-in-BasicPublish.ensures at c.from_method-in-BasicPublish.ensures.args
+returns-in-BasicPublish c = c.of_method-in-BasicPublish.ensures
 
-pub unwrap-requires-in-BasicReturn : goal.unwrap-requires-in-BasicReturn
-unwrap-requires-in-BasicReturn c = c.from_method-in-BasicReturn.ensures.when.1 (sym c.kind.ensures ∙ c.in-BasicReturn.is)
+pub of_method-requires-in-BasicReturn : goal.of_method-requires-in-BasicReturn
+of_method-requires-in-BasicReturn c = sym c.kind.ensures ∙ c.in-BasicReturn.is
 
 pub returns-in-BasicReturn : goal.returns-in-BasicReturn
-returns-in-BasicReturn c = rw c.unwrap-in-BasicReturn.ensures at c.from_method-in-BasicReturn.ensures.args
+returns-in-BasicReturn c = c.of_method-in-BasicReturn.ensures
 
-pub unwrap-requires-in-BasicDeliver : goal.unwrap-requires-in-BasicDeliver
-unwrap-requires-in-BasicDeliver c = c.from_method-in-BasicDeliver.ensures.when.1 (sym c.kind.ensures ∙ c.in-BasicDeliver.is)
+pub of_method-requires-in-BasicDeliver : goal.of_method-requires-in-BasicDeliver
+of_method-requires-in-BasicDeliver c = sym c.kind.ensures ∙ c.in-BasicDeliver.is
 
 pub returns-in-BasicDeliver : goal.returns-in-BasicDeliver
-returns-in-BasicDeliver c = rw c.unwrap-in-BasicDeliver.ensures at c.from_method-in-BasicDeliver.ensures.args
+returns-in-BasicDeliver c = c.of_method-in-BasicDeliver.ensures
 
-pub unwrap-requires-in-BasicGet : goal.unwrap-requires-in-BasicGet
-unwrap-requires-in-BasicGet c = c.from_method-in-BasicGet.ensures.when.1 (sym c.kind.ensures ∙ c.in-BasicGet.is)
+pub of_method-requires-in-BasicGet : goal.of_method-requires-in-BasicGet
+of_method-requires-in-BasicGet c = sym c.kind.ensures ∙ c.in-BasicGet.is
 
 pub returns-in-BasicGet : goal.returns-in-BasicGet
-returns-in-BasicGet c = rw c.unwrap-in-BasicGet.ensures at c.from_method-in-BasicGet.ensures.args
+returns-in-BasicGet c = c.of_method-in-BasicGet.ensures
 
-pub unwrap-requires-in-BasicGetOk : goal.unwrap-requires-in-BasicGetOk
-unwrap-requires-in-BasicGetOk c = c.from_method-in-BasicGetOk.ensures.when.1 (sym c.kind.ensures ∙ c.in-BasicGetOk.is)
+pub of_method-requires-in-BasicGetOk : goal.of_method-requires-in-BasicGetOk
+of_method-requires-in-BasicGetOk c = sym c.kind.ensures ∙ c.in-BasicGetOk.is
 
 pub returns-in-BasicGetOk : goal.returns-in-BasicGetOk
-returns-in-BasicGetOk c = rw c.unwrap-in-BasicGetOk.ensures at c.from_method-in-BasicGetOk.ensures.args
+returns-in-BasicGetOk c = c.of_method-in-BasicGetOk.ensures
 
 pub of_method-requires-in-BasicGetEmpty : goal.of_method-requires-in-BasicGetEmpty
 of_method-requires-in-BasicGetEmpty c = sym c.kind.ensures ∙ c.in-BasicGetEmpty.is
@@ -73,29 +73,29 @@ of_method-requires-in-BasicGetEmpty c = sym c.kind.ensures ∙ c.in-BasicGetEmpt
 pub returns-in-BasicGetEmpty : goal.returns-in-BasicGetEmpty
 returns-in-BasicGetEmpty c = c.of_method-in-BasicGetEmpty.ensures
 
-pub unwrap-requires-in-BasicAck : goal.unwrap-requires-in-BasicAck
-unwrap-requires-in-BasicAck c = c.from_method-in-BasicAck.ensures.when.1 (sym c.kind.ensures ∙ c.in-BasicAck.is)
+pub of_method-requires-in-BasicAck : goal.of_method-requires-in-BasicAck
+of_method-requires-in-BasicAck c = sym c.kind.ensures ∙ c.in-BasicAck.is
 
 pub returns-in-BasicAck : goal.returns-in-BasicAck
-returns-in-BasicAck c = rw c.unwrap-in-BasicAck.ensures at c.from_method-in-BasicAck.ensures.args
+returns-in-BasicAck c = c.of_method-in-BasicAck.ensures
 
-pub unwrap-requires-in-BasicReject : goal.unwrap-requires-in-BasicReject
-unwrap-requires-in-BasicReject c = c.from_method-in-BasicReject.ensures.when.1 (sym c.kind.ensures ∙ c.in-BasicReject.is)
+pub of_method-requires-in-BasicReject : goal.of_method-requires-in-BasicReject
+of_method-requires-in-BasicReject c = sym c.kind.ensures ∙ c.in-BasicReject.is
 
 pub returns-in-BasicReject : goal.returns-in-BasicReject
-returns-in-BasicReject c = rw c.unwrap-in-BasicReject.ensures at c.from_method-in-BasicReject.ensures.args
+returns-in-BasicReject c = c.of_method-in-BasicReject.ensures
 
-pub unwrap-requires-in-BasicRecoverAsync : goal.unwrap-requires-in-BasicRecoverAsync
-unwrap-requires-in-BasicRecoverAsync c = c.from_method-in-BasicRecoverAsync.ensures.when.1 (sym c.kind.ensures ∙ c.in-BasicRecoverAsync.is)
+pub of_method-requires-in-BasicRecoverAsync : goal.of_method-requires-in-BasicRecoverAsync
+of_method-requires-in-BasicRecoverAsync c = sym c.kind.ensures ∙ c.in-BasicRecoverAsync.is
 
 pub returns-in-BasicRecoverAsync : goal.returns-in-BasicRecoverAsync
-returns-in-BasicRecoverAsync c = rw c.unwrap-in-BasicRecoverAsync.ensures at c.from_method-in-BasicRecoverAsync.ensures.args
+returns-in-BasicRecoverAsync c = c.of_method-in-BasicRecoverAsync.ensures
 
-pub unwrap-requires-in-BasicRecover : goal.unwrap-requires-in-BasicRecover
-unwrap-requires-in-BasicRecover c = c.from_method-in-BasicRecover.ensures.when.1 (sym c.kind.ensures ∙ c.in-BasicRecover.is)
+pub of_method-requires-in-BasicRecover : goal.of_method-requires-in-BasicRecover
+of_method-requires-in-BasicRecover c = sym c.kind.ensures ∙ c.in-BasicRecover.is
 
 pub returns-in-BasicRecover : goal.returns-in-BasicRecover
-returns-in-BasicRecover c = rw c.unwrap-in-BasicRecover.ensures at c.from_method-in-BasicRecover.ensures.args
+returns-in-BasicRecover c = c.of_method-in-BasicRecover.ensures
 
 pub of_method-requires-in-BasicRecoverOk : goal.of_method-requires-in-BasicRecoverOk
 of_method-requires-in-BasicRecoverOk c = sym c.kind.ensures ∙ c.in-BasicRecoverOk.is
@@ -103,8 +103,8 @@ of_method-requires-in-BasicRecoverOk c = sym c.kind.ensures ∙ c.in-BasicRecove
 pub returns-in-BasicRecoverOk : goal.returns-in-BasicRecoverOk
 returns-in-BasicRecoverOk c = c.of_method-in-BasicRecoverOk.ensures
 
-pub unwrap-requires-in-BasicNack : goal.unwrap-requires-in-BasicNack
-unwrap-requires-in-BasicNack c = c.from_method-in-BasicNack.ensures.when.1 (sym c.kind.ensures ∙ c.in-BasicNack.is)
+pub of_method-requires-in-BasicNack : goal.of_method-requires-in-BasicNack
+of_method-requires-in-BasicNack c = sym c.kind.ensures ∙ c.in-BasicNack.is
 
 pub returns-in-BasicNack : goal.returns-in-BasicNack
-returns-in-BasicNack c = rw c.unwrap-in-BasicNack.ensures at c.from_method-in-BasicNack.ensures.args
+returns-in-BasicNack c = c.of_method-in-BasicNack.ensures

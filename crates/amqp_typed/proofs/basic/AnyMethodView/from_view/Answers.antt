@@ -1,17 +1,17 @@
 use Rattle.std.proofs.Common.{sym, ◌∙◌}
 use Rattle.amqp_typed.proofs.basic.AnyMethodView.from_view.Goals as goal
 
-pub unwrap-requires : goal.unwrap-requires
-unwrap-requires c = c.from_view.ensures.when.1 (sym c.kind_in.ensures.kind ∙ c.in-BasicQos.is)
+pub of_view-requires : goal.of_view-requires
+of_view-requires c = (c.kind_in.ensures.fit, sym c.kind_in.ensures.kind ∙ c.in-BasicQos.is)
 
 pub returns-in-BasicQos : goal.returns-in-BasicQos
-returns-in-BasicQos c = rw c.unwrap.ensures at c.from_view.ensures.args
+returns-in-BasicQos c = c.of_view.ensures
 
-pub of_view-requires : goal.of_view-requires
-of_view-requires c = sym c.kind_in.ensures.kind ∙ c.in-BasicQosOk.is
+pub of_view-requires-in-BasicQosOk : goal.of_view-requires-in-BasicQosOk
+of_view-requires-in-BasicQosOk c = (c.kind_in.ensures.fit, sym c.kind_in.ensures.kind ∙ c.in-BasicQosOk.is)
 
 pub returns-in-BasicQosOk : goal.returns-in-BasicQosOk
-returns-in-BasicQosOk c = c.of_view.ensures
+returns-in-BasicQosOk c = c.of_view-in-BasicQosOk.ensures
 
 pub of_view-requires-in-BasicConsume : goal.of_view-requires-in-BasicConsume
 of_view-requires-in-BasicConsume c = (c.kind_in.ensures.fit, sym c.kind_in.ensures.kind ∙ c.in-BasicConsume.is)
@@ -68,43 +68,43 @@ pub returns-in-BasicGetOk : goal.returns-in-BasicGetOk
 returns-in-BasicGetOk c = c.of_view-in-BasicGetOk.ensures
 
 pub of_view-requires-in-BasicGetEmpty : goal.of_view-requires-in-BasicGetEmpty
-of_view-requires-in-BasicGetEmpty c = sym c.kind_in.ensures.kind ∙ c.in-BasicGetEmpty.is
+of_view-requires-in-BasicGetEmpty c = (c.kind_in.ensures.fit, sym c.kind_in.ensures.kind ∙ c.in-BasicGetEmpty.is)
 
 pub returns-in-BasicGetEmpty : goal.returns-in-BasicGetEmpty
 returns-in-BasicGetEmpty c = c.of_view-in-BasicGetEmpty.ensures
 
-pub unwrap-requires-in-BasicAck : goal.unwrap-requires-in-BasicAck
-unwrap-requires-in-BasicAck c = c.from_view-in-BasicAck.ensures.when.1 (sym c.kind_in.ensures.kind ∙ c.in-BasicAck.is)
+pub of_view-requires-in-BasicAck : goal.of_view-requires-in-BasicAck
+of_view-requires-in-BasicAck c = (c.kind_in.ensures.fit, sym c.kind_in.ensures.kind ∙ c.in-BasicAck.is)
 
 pub returns-in-BasicAck : goal.returns-in-BasicAck
-returns-in-BasicAck c = rw c.unwrap-in-BasicAck.ensures at c.from_view-in-BasicAck.ensures.args
+returns-in-BasicAck c = c.of_view-in-BasicAck.ensures
 
-pub unwrap-requires-in-BasicReject : goal.unwrap-requires-in-BasicReject
-unwrap-requires-in-BasicReject c = c.from_view-in-BasicReject.ensures.when.1 (sym c.kind_in.ensures.kind ∙ c.in-BasicReject.is)
+pub of_view-requires-in-BasicReject : goal.of_view-requires-in-BasicReject
+of_view-requires-in-BasicReject c = (c.kind_in.ensures.fit, sym c.kind_in.ensures.kind ∙ c.in-BasicReject.is)
 
 pub returns-in-BasicReject : goal.returns-in-BasicReject
-returns-in-BasicReject c = rw c.unwrap-in-BasicReject.ensures at c.from_view-in-BasicReject.ensures.args
+returns-in-BasicReject c = c.of_view-in-BasicReject.ensures
 
-pub unwrap-requires-in-BasicRecoverAsync : goal.unwrap-requires-in-BasicRecoverAsync
-unwrap-requires-in-BasicRecoverAsync c = c.from_view-in-BasicRecoverAsync.ensures.when.1 (sym c.kind_in.ensures.kind ∙ c.in-BasicRecoverAsync.is)
+pub of_view-requires-in-BasicRecoverAsync : goal.of_view-requires-in-BasicRecoverAsync
+of_view-requires-in-BasicRecoverAsync c = (c.kind_in.ensures.fit, sym c.kind_in.ensures.kind ∙ c.in-BasicRecoverAsync.is)
 
 pub returns-in-BasicRecoverAsync : goal.returns-in-BasicRecoverAsync
-returns-in-BasicRecoverAsync c = rw c.unwrap-in-BasicRecoverAsync.ensures at c.from_view-in-BasicRecoverAsync.ensures.args
+returns-in-BasicRecoverAsync c = c.of_view-in-BasicRecoverAsync.ensures
 
-pub unwrap-requires-in-BasicRecover : goal.unwrap-requires-in-BasicRecover
-unwrap-requires-in-BasicRecover c = c.from_view-in-BasicRecover.ensures.when.1 (sym c.kind_in.ensures.kind ∙ c.in-BasicRecover.is)
+pub of_view-requires-in-BasicRecover : goal.of_view-requires-in-BasicRecover
+of_view-requires-in-BasicRecover c = (c.kind_in.ensures.fit, sym c.kind_in.ensures.kind ∙ c.in-BasicRecover.is)
 
 pub returns-in-BasicRecover : goal.returns-in-BasicRecover
-returns-in-BasicRecover c = rw c.unwrap-in-BasicRecover.ensures at c.from_view-in-BasicRecover.ensures.args
+returns-in-BasicRecover c = c.of_view-in-BasicRecover.ensures
 
 pub of_view-requires-in-BasicRecoverOk : goal.of_view-requires-in-BasicRecoverOk
-of_view-requires-in-BasicRecoverOk c = sym c.kind_in.ensures.kind ∙ c.in-BasicRecoverOk.is
+of_view-requires-in-BasicRecoverOk c = (c.kind_in.ensures.fit, sym c.kind_in.ensures.kind ∙ c.in-BasicRecoverOk.is)
 
 pub returns-in-BasicRecoverOk : goal.returns-in-BasicRecoverOk
 returns-in-BasicRecoverOk c = c.of_view-in-BasicRecoverOk.ensures
 
-pub unwrap-requires-in-BasicNack : goal.unwrap-requires-in-BasicNack
-unwrap-requires-in-BasicNack c = c.from_view-in-BasicNack.ensures.when.1 (sym c.kind_in.ensures.kind ∙ c.in-BasicNack.is)
+pub of_view-requires-in-BasicNack : goal.of_view-requires-in-BasicNack
+of_view-requires-in-BasicNack c = (c.kind_in.ensures.fit, sym c.kind_in.ensures.kind ∙ c.in-BasicNack.is)
 
 pub returns-in-BasicNack : goal.returns-in-BasicNack
-returns-in-BasicNack c = rw c.unwrap-in-BasicNack.ensures at c.from_view-in-BasicNack.ensures.args
+returns-in-BasicNack c = c.of_view-in-BasicNack.ensures

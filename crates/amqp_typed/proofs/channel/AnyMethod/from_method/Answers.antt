@@ -13,23 +13,23 @@ of_method-requires-in-ChannelOpenOk c = sym c.kind.ensures ∙ c.in-ChannelOpenO
 pub returns-in-ChannelOpenOk : goal.returns-in-ChannelOpenOk
 returns-in-ChannelOpenOk c = c.of_method-in-ChannelOpenOk.ensures
 
-pub unwrap-requires : goal.unwrap-requires
-unwrap-requires c = c.from_method.ensures.when.1 (sym c.kind.ensures ∙ c.in-ChannelFlow.is)
+pub of_method-requires-in-ChannelFlow : goal.of_method-requires-in-ChannelFlow
+of_method-requires-in-ChannelFlow c = sym c.kind.ensures ∙ c.in-ChannelFlow.is
 
 pub returns-in-ChannelFlow : goal.returns-in-ChannelFlow
-returns-in-ChannelFlow c = rw c.unwrap.ensures at c.from_method.ensures.args
+returns-in-ChannelFlow c = c.of_method-in-ChannelFlow.ensures
 
-pub unwrap-requires-in-ChannelFlowOk : goal.unwrap-requires-in-ChannelFlowOk
-unwrap-requires-in-ChannelFlowOk c = c.from_method-in-ChannelFlowOk.ensures.when.1 (sym c.kind.ensures ∙ c.in-ChannelFlowOk.is)
+pub of_method-requires-in-ChannelFlowOk : goal.of_method-requires-in-ChannelFlowOk
+of_method-requires-in-ChannelFlowOk c = sym c.kind.ensures ∙ c.in-ChannelFlowOk.is
 
 pub returns-in-ChannelFlowOk : goal.returns-in-ChannelFlowOk
-returns-in-ChannelFlowOk c = rw c.unwrap-in-ChannelFlowOk.ensures at c.from_method-in-ChannelFlowOk.ensures.args
+returns-in-ChannelFlowOk c = c.of_method-in-ChannelFlowOk.ensures
 
-pub unwrap-requires-in-ChannelClose : goal.unwrap-requires-in-ChannelClose
-unwrap-requires-in-ChannelClose c = c.from_method-in-ChannelClose.ensures.when.1 (sym c.kind.ensures ∙ c.in-ChannelClose.is)
+pub of_method-requires-in-ChannelClose : goal.of_method-requires-in-ChannelClose
+of_method-requires-in-ChannelClose c = sym c.kind.ensures ∙ c.in-ChannelClose.is
 
 pub returns-in-ChannelClose : goal.returns-in-ChannelClose
-returns-in-ChannelClose c = rw c.unwrap-in-ChannelClose.ensures at c.from_method-in-ChannelClose.ensures.args
+returns-in-ChannelClose c = c.of_method-in-ChannelClose.ensures
 
 pub of_method-requires-in-ChannelCloseOk : goal.of_method-requires-in-ChannelCloseOk
 of_method-requires-in-ChannelCloseOk c = sym c.kind.ensures ∙ c.in-ChannelCloseOk.is

@@ -1,59 +1,59 @@
 use Rattle.std.proofs.Common.{sym, ◌∙◌}
 use Rattle.amqp_typed.proofs.connection.AnyMethod.from_method.Goals as goal
 
-pub unwrap-requires : goal.unwrap-requires
-unwrap-requires c = c.from_method.ensures.when.1 (sym c.kind.ensures ∙ c.in-ConnectionStart.is)
+pub of_method-requires : goal.of_method-requires
+of_method-requires c = sym c.kind.ensures ∙ c.in-ConnectionStart.is
 
 pub returns-in-ConnectionStart : goal.returns-in-ConnectionStart
-returns-in-ConnectionStart c = rw c.unwrap.ensures at c.from_method.ensures.args
+returns-in-ConnectionStart c = c.of_method.ensures
 
-pub unwrap-requires-in-ConnectionStartOk : goal.unwrap-requires-in-ConnectionStartOk
-unwrap-requires-in-ConnectionStartOk c = c.from_method-in-ConnectionStartOk.ensures.when.1 (sym c.kind.ensures ∙ c.in-ConnectionStartOk.is)
+pub of_method-requires-in-ConnectionStartOk : goal.of_method-requires-in-ConnectionStartOk
+of_method-requires-in-ConnectionStartOk c = sym c.kind.ensures ∙ c.in-ConnectionStartOk.is
 
 pub returns-in-ConnectionStartOk : goal.returns-in-ConnectionStartOk
-returns-in-ConnectionStartOk c = rw c.unwrap-in-ConnectionStartOk.ensures at c.from_method-in-ConnectionStartOk.ensures.args
+returns-in-ConnectionStartOk c = c.of_method-in-ConnectionStartOk.ensures
 
-pub unwrap-requires-in-ConnectionSecure : goal.unwrap-requires-in-ConnectionSecure
-unwrap-requires-in-ConnectionSecure c = c.from_method-in-ConnectionSecure.ensures.when.1 (sym c.kind.ensures ∙ c.in-ConnectionSecure.is)
+pub of_method-requires-in-ConnectionSecure : goal.of_method-requires-in-ConnectionSecure
+of_method-requires-in-ConnectionSecure c = sym c.kind.ensures ∙ c.in-ConnectionSecure.is
 
 pub returns-in-ConnectionSecure : goal.returns-in-ConnectionSecure
-returns-in-ConnectionSecure c = rw c.unwrap-in-ConnectionSecure.ensures at c.from_method-in-ConnectionSecure.ensures.args
+returns-in-ConnectionSecure c = c.of_method-in-ConnectionSecure.ensures
 
-pub unwrap-requires-in-ConnectionSecureOk : goal.unwrap-requires-in-ConnectionSecureOk
-unwrap-requires-in-ConnectionSecureOk c = c.from_method-in-ConnectionSecureOk.ensures.when.1 (sym c.kind.ensures ∙ c.in-ConnectionSecureOk.is)
+pub of_method-requires-in-ConnectionSecureOk : goal.of_method-requires-in-ConnectionSecureOk
+of_method-requires-in-ConnectionSecureOk c = sym c.kind.ensures ∙ c.in-ConnectionSecureOk.is
 
 pub returns-in-ConnectionSecureOk : goal.returns-in-ConnectionSecureOk
-returns-in-ConnectionSecureOk c = rw c.unwrap-in-ConnectionSecureOk.ensures at c.from_method-in-ConnectionSecureOk.ensures.args
+returns-in-ConnectionSecureOk c = c.of_method-in-ConnectionSecureOk.ensures
 
-pub unwrap-requires-in-ConnectionTune : goal.unwrap-requires-in-ConnectionTune
-unwrap-requires-in-ConnectionTune c = c.from_method-in-ConnectionTune.ensures.when.1 (sym c.kind.ensures ∙ c.in-ConnectionTune.is)
+pub of_method-requires-in-ConnectionTune : goal.of_method-requires-in-ConnectionTune
+of_method-requires-in-ConnectionTune c = sym c.kind.ensures ∙ c.in-ConnectionTune.is
 
 pub returns-in-ConnectionTune : goal.returns-in-ConnectionTune
-returns-in-ConnectionTune c = rw c.unwrap-in-ConnectionTune.ensures at c.from_method-in-ConnectionTune.ensures.args
+returns-in-ConnectionTune c = c.of_method-in-ConnectionTune.ensures
 
-pub unwrap-requires-in-ConnectionTuneOk : goal.unwrap-requires-in-ConnectionTuneOk
-unwrap-requires-in-ConnectionTuneOk c = c.from_method-in-ConnectionTuneOk.ensures.when.1 (sym c.kind.ensures ∙ c.in-ConnectionTuneOk.is)
+pub of_method-requires-in-ConnectionTuneOk : goal.of_method-requires-in-ConnectionTuneOk
+of_method-requires-in-ConnectionTuneOk c = sym c.kind.ensures ∙ c.in-ConnectionTuneOk.is
 
 pub returns-in-ConnectionTuneOk : goal.returns-in-ConnectionTuneOk
-returns-in-ConnectionTuneOk c = rw c.unwrap-in-ConnectionTuneOk.ensures at c.from_method-in-ConnectionTuneOk.ensures.args
+returns-in-ConnectionTuneOk c = c.of_method-in-ConnectionTuneOk.ensures
 
-pub unwrap-requires-in-ConnectionOpen : goal.unwrap-requires-in-ConnectionOpen
-unwrap-requires-in-ConnectionOpen c = c.from_method-in-ConnectionOpen.ensures.when.1 (sym c.kind.ensures ∙ c.in-ConnectionOpen.is)
+pub of_method-requires-in-ConnectionOpen : goal.of_method-requires-in-ConnectionOpen
+of_method-requires-in-ConnectionOpen c = sym c.kind.ensures ∙ c.in-ConnectionOpen.is
 
 pub returns-in-ConnectionOpen : goal.returns-in-ConnectionOpen
-returns-in-ConnectionOpen c = rw c.unwrap-in-ConnectionOpen.ensures at c.from_method-in-ConnectionOpen.ensures.args
+returns-in-ConnectionOpen c = c.of_method-in-ConnectionOpen.ensures
 
-pub of_method-requires : goal.of_method-requires
-of_method-requires c = sym c.kind.ensures ∙ c.in-ConnectionOpenOk.is
+pub of_method-requires-in-ConnectionOpenOk : goal.of_method-requires-in-ConnectionOpenOk
+of_method-requires-in-ConnectionOpenOk c = sym c.kind.ensures ∙ c.in-ConnectionOpenOk.is
 
 pub returns-in-ConnectionOpenOk : goal.returns-in-ConnectionOpenOk
-returns-in-ConnectionOpenOk c = c.of_method.ensures
+returns-in-ConnectionOpenOk c = c.of_method-in-ConnectionOpenOk.ensures
 
-pub unwrap-requires-in-ConnectionClose : goal.unwrap-requires-in-ConnectionClose
-unwrap-requires-in-ConnectionClose c = c.from_method-in-ConnectionClose.ensures.when.1 (sym c.kind.ensures ∙ c.in-ConnectionClose.is)
+pub of_method-requires-in-ConnectionClose : goal.of_method-requires-in-ConnectionClose
+of_method-requires-in-ConnectionClose c = sym c.kind.ensures ∙ c.in-ConnectionClose.is
 
 pub returns-in-ConnectionClose : goal.returns-in-ConnectionClose
-returns-in-ConnectionClose c = rw c.unwrap-in-ConnectionClose.ensures at c.from_method-in-ConnectionClose.ensures.args
+returns-in-ConnectionClose c = c.of_method-in-ConnectionClose.ensures
 
 pub of_method-requires-in-ConnectionCloseOk : goal.of_method-requires-in-ConnectionCloseOk
 of_method-requires-in-ConnectionCloseOk c = sym c.kind.ensures ∙ c.in-ConnectionCloseOk.is
@@ -61,11 +61,11 @@ of_method-requires-in-ConnectionCloseOk c = sym c.kind.ensures ∙ c.in-Connecti
 pub returns-in-ConnectionCloseOk : goal.returns-in-ConnectionCloseOk
 returns-in-ConnectionCloseOk c = c.of_method-in-ConnectionCloseOk.ensures
 
-pub unwrap-requires-in-ConnectionBlocked : goal.unwrap-requires-in-ConnectionBlocked
-unwrap-requires-in-ConnectionBlocked c = c.from_method-in-ConnectionBlocked.ensures.when.1 (sym c.kind.ensures ∙ c.in-ConnectionBlocked.is)
+pub of_method-requires-in-ConnectionBlocked : goal.of_method-requires-in-ConnectionBlocked
+of_method-requires-in-ConnectionBlocked c = sym c.kind.ensures ∙ c.in-ConnectionBlocked.is
 
 pub returns-in-ConnectionBlocked : goal.returns-in-ConnectionBlocked
-returns-in-ConnectionBlocked c = rw c.unwrap-in-ConnectionBlocked.ensures at c.from_method-in-ConnectionBlocked.ensures.args
+returns-in-ConnectionBlocked c = c.of_method-in-ConnectionBlocked.ensures
 
 pub of_method-requires-in-ConnectionUnblocked : goal.of_method-requires-in-ConnectionUnblocked
 of_method-requires-in-ConnectionUnblocked c = sym c.kind.ensures ∙ c.in-ConnectionUnblocked.is

@@ -25,17 +25,17 @@ of_view-requires-in-ConnectionSecureOk c = (c.kind_in.ensures.fit, sym c.kind_in
 pub returns-in-ConnectionSecureOk : goal.returns-in-ConnectionSecureOk
 returns-in-ConnectionSecureOk c = c.of_view-in-ConnectionSecureOk.ensures
 
-pub unwrap-requires : goal.unwrap-requires
-unwrap-requires c = c.from_view.ensures.when.1 (sym c.kind_in.ensures.kind ∙ c.in-ConnectionTune.is)
+pub of_view-requires-in-ConnectionTune : goal.of_view-requires-in-ConnectionTune
+of_view-requires-in-ConnectionTune c = (c.kind_in.ensures.fit, sym c.kind_in.ensures.kind ∙ c.in-ConnectionTune.is)
 
 pub returns-in-ConnectionTune : goal.returns-in-ConnectionTune
-returns-in-ConnectionTune c = rw c.unwrap.ensures at c.from_view.ensures.args
+returns-in-ConnectionTune c = c.of_view-in-ConnectionTune.ensures
 
-pub unwrap-requires-in-ConnectionTuneOk : goal.unwrap-requires-in-ConnectionTuneOk
-unwrap-requires-in-ConnectionTuneOk c = c.from_view-in-ConnectionTuneOk.ensures.when.1 (sym c.kind_in.ensures.kind ∙ c.in-ConnectionTuneOk.is)
+pub of_view-requires-in-ConnectionTuneOk : goal.of_view-requires-in-ConnectionTuneOk
+of_view-requires-in-ConnectionTuneOk c = (c.kind_in.ensures.fit, sym c.kind_in.ensures.kind ∙ c.in-ConnectionTuneOk.is)
 
 pub returns-in-ConnectionTuneOk : goal.returns-in-ConnectionTuneOk
-returns-in-ConnectionTuneOk c = rw c.unwrap-in-ConnectionTuneOk.ensures at c.from_view-in-ConnectionTuneOk.ensures.args
+returns-in-ConnectionTuneOk c = c.of_view-in-ConnectionTuneOk.ensures
 
 pub of_view-requires-in-ConnectionOpen : goal.of_view-requires-in-ConnectionOpen
 of_view-requires-in-ConnectionOpen c = (c.kind_in.ensures.fit, sym c.kind_in.ensures.kind ∙ c.in-ConnectionOpen.is)
@@ -44,7 +44,7 @@ pub returns-in-ConnectionOpen : goal.returns-in-ConnectionOpen
 returns-in-ConnectionOpen c = c.of_view-in-ConnectionOpen.ensures
 
 pub of_view-requires-in-ConnectionOpenOk : goal.of_view-requires-in-ConnectionOpenOk
-of_view-requires-in-ConnectionOpenOk c = sym c.kind_in.ensures.kind ∙ c.in-ConnectionOpenOk.is
+of_view-requires-in-ConnectionOpenOk c = (c.kind_in.ensures.fit, sym c.kind_in.ensures.kind ∙ c.in-ConnectionOpenOk.is)
 
 pub returns-in-ConnectionOpenOk : goal.returns-in-ConnectionOpenOk
 returns-in-ConnectionOpenOk c = c.of_view-in-ConnectionOpenOk.ensures
@@ -56,7 +56,7 @@ pub returns-in-ConnectionClose : goal.returns-in-ConnectionClose
 returns-in-ConnectionClose c = c.of_view-in-ConnectionClose.ensures
 
 pub of_view-requires-in-ConnectionCloseOk : goal.of_view-requires-in-ConnectionCloseOk
-of_view-requires-in-ConnectionCloseOk c = sym c.kind_in.ensures.kind ∙ c.in-ConnectionCloseOk.is
+of_view-requires-in-ConnectionCloseOk c = (c.kind_in.ensures.fit, sym c.kind_in.ensures.kind ∙ c.in-ConnectionCloseOk.is)
 
 pub returns-in-ConnectionCloseOk : goal.returns-in-ConnectionCloseOk
 returns-in-ConnectionCloseOk c = c.of_view-in-ConnectionCloseOk.ensures
@@ -68,7 +68,7 @@ pub returns-in-ConnectionBlocked : goal.returns-in-ConnectionBlocked
 returns-in-ConnectionBlocked c = c.of_view-in-ConnectionBlocked.ensures
 
 pub of_view-requires-in-ConnectionUnblocked : goal.of_view-requires-in-ConnectionUnblocked
-of_view-requires-in-ConnectionUnblocked c = sym c.kind_in.ensures.kind ∙ c.in-ConnectionUnblocked.is
+of_view-requires-in-ConnectionUnblocked c = (c.kind_in.ensures.fit, sym c.kind_in.ensures.kind ∙ c.in-ConnectionUnblocked.is)
 
 pub returns-in-ConnectionUnblocked : goal.returns-in-ConnectionUnblocked
 returns-in-ConnectionUnblocked c = c.of_view-in-ConnectionUnblocked.ensures

@@ -1,23 +1,23 @@
 use Rattle.std.proofs.Common.{sym, ◌∙◌}
 use Rattle.amqp_typed.proofs.exchange.AnyMethod.from_method.Goals as goal
 
-pub unwrap-requires : goal.unwrap-requires
-unwrap-requires c = c.from_method.ensures.when.1 (sym c.kind.ensures ∙ c.in-ExchangeDeclare.is)
+pub of_method-requires : goal.of_method-requires
+of_method-requires c = sym c.kind.ensures ∙ c.in-ExchangeDeclare.is
 
 pub returns-in-ExchangeDeclare : goal.returns-in-ExchangeDeclare
-returns-in-ExchangeDeclare c = rw c.unwrap.ensures at c.from_method.ensures.args
+returns-in-ExchangeDeclare c = c.of_method.ensures
 
-pub of_method-requires : goal.of_method-requires
-of_method-requires c = sym c.kind.ensures ∙ c.in-ExchangeDeclareOk.is
+pub of_method-requires-in-ExchangeDeclareOk : goal.of_method-requires-in-ExchangeDeclareOk
+of_method-requires-in-ExchangeDeclareOk c = sym c.kind.ensures ∙ c.in-ExchangeDeclareOk.is
 
 pub returns-in-ExchangeDeclareOk : goal.returns-in-ExchangeDeclareOk
-returns-in-ExchangeDeclareOk c = c.of_method.ensures
+returns-in-ExchangeDeclareOk c = c.of_method-in-ExchangeDeclareOk.ensures
 
-pub unwrap-requires-in-ExchangeDelete : goal.unwrap-requires-in-ExchangeDelete
-unwrap-requires-in-ExchangeDelete c = c.from_method-in-ExchangeDelete.ensures.when.1 (sym c.kind.ensures ∙ c.in-ExchangeDelete.is)
+pub of_method-requires-in-ExchangeDelete : goal.of_method-requires-in-ExchangeDelete
+of_method-requires-in-ExchangeDelete c = sym c.kind.ensures ∙ c.in-ExchangeDelete.is
 
 pub returns-in-ExchangeDelete : goal.returns-in-ExchangeDelete
-returns-in-ExchangeDelete c = rw c.unwrap-in-ExchangeDelete.ensures at c.from_method-in-ExchangeDelete.ensures.args
+returns-in-ExchangeDelete c = c.of_method-in-ExchangeDelete.ensures
 
 pub of_method-requires-in-ExchangeDeleteOk : goal.of_method-requires-in-ExchangeDeleteOk
 of_method-requires-in-ExchangeDeleteOk c = sym c.kind.ensures ∙ c.in-ExchangeDeleteOk.is
@@ -25,11 +25,11 @@ of_method-requires-in-ExchangeDeleteOk c = sym c.kind.ensures ∙ c.in-ExchangeD
 pub returns-in-ExchangeDeleteOk : goal.returns-in-ExchangeDeleteOk
 returns-in-ExchangeDeleteOk c = c.of_method-in-ExchangeDeleteOk.ensures
 
-pub unwrap-requires-in-ExchangeBind : goal.unwrap-requires-in-ExchangeBind
-unwrap-requires-in-ExchangeBind c = c.from_method-in-ExchangeBind.ensures.when.1 (sym c.kind.ensures ∙ c.in-ExchangeBind.is)
+pub of_method-requires-in-ExchangeBind : goal.of_method-requires-in-ExchangeBind
+of_method-requires-in-ExchangeBind c = sym c.kind.ensures ∙ c.in-ExchangeBind.is
 
 pub returns-in-ExchangeBind : goal.returns-in-ExchangeBind
-returns-in-ExchangeBind c = rw c.unwrap-in-ExchangeBind.ensures at c.from_method-in-ExchangeBind.ensures.args
+returns-in-ExchangeBind c = c.of_method-in-ExchangeBind.ensures
 
 pub of_method-requires-in-ExchangeBindOk : goal.of_method-requires-in-ExchangeBindOk
 of_method-requires-in-ExchangeBindOk c = sym c.kind.ensures ∙ c.in-ExchangeBindOk.is
@@ -37,11 +37,11 @@ of_method-requires-in-ExchangeBindOk c = sym c.kind.ensures ∙ c.in-ExchangeBin
 pub returns-in-ExchangeBindOk : goal.returns-in-ExchangeBindOk
 returns-in-ExchangeBindOk c = c.of_method-in-ExchangeBindOk.ensures
 
-pub unwrap-requires-in-ExchangeUnbind : goal.unwrap-requires-in-ExchangeUnbind
-unwrap-requires-in-ExchangeUnbind c = c.from_method-in-ExchangeUnbind.ensures.when.1 (sym c.kind.ensures ∙ c.in-ExchangeUnbind.is)
+pub of_method-requires-in-ExchangeUnbind : goal.of_method-requires-in-ExchangeUnbind
+of_method-requires-in-ExchangeUnbind c = sym c.kind.ensures ∙ c.in-ExchangeUnbind.is
 
 pub returns-in-ExchangeUnbind : goal.returns-in-ExchangeUnbind
-returns-in-ExchangeUnbind c = rw c.unwrap-in-ExchangeUnbind.ensures at c.from_method-in-ExchangeUnbind.ensures.args
+returns-in-ExchangeUnbind c = c.of_method-in-ExchangeUnbind.ensures
 
 pub of_method-requires-in-ExchangeUnbindOk : goal.of_method-requires-in-ExchangeUnbindOk
 of_method-requires-in-ExchangeUnbindOk c = sym c.kind.ensures ∙ c.in-ExchangeUnbindOk.is

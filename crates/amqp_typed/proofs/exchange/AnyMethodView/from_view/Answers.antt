@@ -8,7 +8,7 @@ pub returns-in-ExchangeDeclare : goal.returns-in-ExchangeDeclare
 returns-in-ExchangeDeclare c = c.of_view.ensures
 
 pub of_view-requires-in-ExchangeDeclareOk : goal.of_view-requires-in-ExchangeDeclareOk
-of_view-requires-in-ExchangeDeclareOk c = sym c.kind_in.ensures.kind ∙ c.in-ExchangeDeclareOk.is
+of_view-requires-in-ExchangeDeclareOk c = (c.kind_in.ensures.fit, sym c.kind_in.ensures.kind ∙ c.in-ExchangeDeclareOk.is)
 
 pub returns-in-ExchangeDeclareOk : goal.returns-in-ExchangeDeclareOk
 returns-in-ExchangeDeclareOk c = c.of_view-in-ExchangeDeclareOk.ensures
@@ -20,7 +20,7 @@ pub returns-in-ExchangeDelete : goal.returns-in-ExchangeDelete
 returns-in-ExchangeDelete c = c.of_view-in-ExchangeDelete.ensures
 
 pub of_view-requires-in-ExchangeDeleteOk : goal.of_view-requires-in-ExchangeDeleteOk
-of_view-requires-in-ExchangeDeleteOk c = sym c.kind_in.ensures.kind ∙ c.in-ExchangeDeleteOk.is
+of_view-requires-in-ExchangeDeleteOk c = (c.kind_in.ensures.fit, sym c.kind_in.ensures.kind ∙ c.in-ExchangeDeleteOk.is)
 
 pub returns-in-ExchangeDeleteOk : goal.returns-in-ExchangeDeleteOk
 returns-in-ExchangeDeleteOk c = c.of_view-in-ExchangeDeleteOk.ensures
@@ -32,7 +32,7 @@ pub returns-in-ExchangeBind : goal.returns-in-ExchangeBind
 returns-in-ExchangeBind c = c.of_view-in-ExchangeBind.ensures
 
 pub of_view-requires-in-ExchangeBindOk : goal.of_view-requires-in-ExchangeBindOk
-of_view-requires-in-ExchangeBindOk c = sym c.kind_in.ensures.kind ∙ c.in-ExchangeBindOk.is
+of_view-requires-in-ExchangeBindOk c = (c.kind_in.ensures.fit, sym c.kind_in.ensures.kind ∙ c.in-ExchangeBindOk.is)
 
 pub returns-in-ExchangeBindOk : goal.returns-in-ExchangeBindOk
 returns-in-ExchangeBindOk c = c.of_view-in-ExchangeBindOk.ensures
@@ -44,7 +44,7 @@ pub returns-in-ExchangeUnbind : goal.returns-in-ExchangeUnbind
 returns-in-ExchangeUnbind c = c.of_view-in-ExchangeUnbind.ensures
 
 pub of_view-requires-in-ExchangeUnbindOk : goal.of_view-requires-in-ExchangeUnbindOk
-of_view-requires-in-ExchangeUnbindOk c = sym c.kind_in.ensures.kind ∙ c.in-ExchangeUnbindOk.is
+of_view-requires-in-ExchangeUnbindOk c = (c.kind_in.ensures.fit, sym c.kind_in.ensures.kind ∙ c.in-ExchangeUnbindOk.is)
 
 pub returns-in-ExchangeUnbindOk : goal.returns-in-ExchangeUnbindOk
 returns-in-ExchangeUnbindOk c = c.of_view-in-ExchangeUnbindOk.ensures

@@ -20,7 +20,7 @@ pub returns-in-QueueBind : goal.returns-in-QueueBind
 returns-in-QueueBind c = c.of_view-in-QueueBind.ensures
 
 pub of_view-requires-in-QueueBindOk : goal.of_view-requires-in-QueueBindOk
-of_view-requires-in-QueueBindOk c = sym c.kind_in.ensures.kind ∙ c.in-QueueBindOk.is
+of_view-requires-in-QueueBindOk c = (c.kind_in.ensures.fit, sym c.kind_in.ensures.kind ∙ c.in-QueueBindOk.is)
 
 pub returns-in-QueueBindOk : goal.returns-in-QueueBindOk
 returns-in-QueueBindOk c = c.of_view-in-QueueBindOk.ensures
@@ -32,7 +32,7 @@ pub returns-in-QueueUnbind : goal.returns-in-QueueUnbind
 returns-in-QueueUnbind c = c.of_view-in-QueueUnbind.ensures
 
 pub of_view-requires-in-QueueUnbindOk : goal.of_view-requires-in-QueueUnbindOk
-of_view-requires-in-QueueUnbindOk c = sym c.kind_in.ensures.kind ∙ c.in-QueueUnbindOk.is
+of_view-requires-in-QueueUnbindOk c = (c.kind_in.ensures.fit, sym c.kind_in.ensures.kind ∙ c.in-QueueUnbindOk.is)
 
 pub returns-in-QueueUnbindOk : goal.returns-in-QueueUnbindOk
 returns-in-QueueUnbindOk c = c.of_view-in-QueueUnbindOk.ensures
@@ -43,11 +43,11 @@ of_view-requires-in-QueuePurge c = (c.kind_in.ensures.fit, sym c.kind_in.ensures
 pub returns-in-QueuePurge : goal.returns-in-QueuePurge
 returns-in-QueuePurge c = c.of_view-in-QueuePurge.ensures
 
-pub unwrap-requires : goal.unwrap-requires
-unwrap-requires c = c.from_view.ensures.when.1 (sym c.kind_in.ensures.kind ∙ c.in-QueuePurgeOk.is)
+pub of_view-requires-in-QueuePurgeOk : goal.of_view-requires-in-QueuePurgeOk
+of_view-requires-in-QueuePurgeOk c = (c.kind_in.ensures.fit, sym c.kind_in.ensures.kind ∙ c.in-QueuePurgeOk.is)
 
 pub returns-in-QueuePurgeOk : goal.returns-in-QueuePurgeOk
-returns-in-QueuePurgeOk c = rw c.unwrap.ensures at c.from_view.ensures.args
+returns-in-QueuePurgeOk c = c.of_view-in-QueuePurgeOk.ensures
 
 pub of_view-requires-in-QueueDelete : goal.of_view-requires-in-QueueDelete
 of_view-requires-in-QueueDelete c = (c.kind_in.ensures.fit, sym c.kind_in.ensures.kind ∙ c.in-QueueDelete.is)
@@ -55,8 +55,8 @@ of_view-requires-in-QueueDelete c = (c.kind_in.ensures.fit, sym c.kind_in.ensure
 pub returns-in-QueueDelete : goal.returns-in-QueueDelete
 returns-in-QueueDelete c = c.of_view-in-QueueDelete.ensures
 
-pub unwrap-requires-in-QueueDeleteOk : goal.unwrap-requires-in-QueueDeleteOk
-unwrap-requires-in-QueueDeleteOk c = c.from_view-in-QueueDeleteOk.ensures.when.1 (sym c.kind_in.ensures.kind ∙ c.in-QueueDeleteOk.is)
+pub of_view-requires-in-QueueDeleteOk : goal.of_view-requires-in-QueueDeleteOk
+of_view-requires-in-QueueDeleteOk c = (c.kind_in.ensures.fit, sym c.kind_in.ensures.kind ∙ c.in-QueueDeleteOk.is)
 
 pub returns-in-QueueDeleteOk : goal.returns-in-QueueDeleteOk
-returns-in-QueueDeleteOk c = rw c.unwrap-in-QueueDeleteOk.ensures at c.from_view-in-QueueDeleteOk.ensures.args
+returns-in-QueueDeleteOk c = c.of_view-in-QueueDeleteOk.ensures

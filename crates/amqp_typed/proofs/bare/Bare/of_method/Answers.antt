@@ -1,7 +1,0 @@
-use Rattle.amqp_typed.proofs.bare.Bare.of_method.Goals as goal
-
-pub unwrap-requires : goal.unwrap-requires
-unwrap-requires g c = c.from_method.ensures.when.1 c.requires
-
-pub returns : goal.returns
-returns g c = rw c.unwrap.ensures at c.from_method.ensures.args

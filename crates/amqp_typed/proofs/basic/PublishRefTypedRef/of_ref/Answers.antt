@@ -1,0 +1,22 @@
+use Rattle.std.proofs.Common.{refl}
+use Rattle.amqp_method.specs.MethodView.{method_view}
+use Rattle.amqp_method.specs.declared.kinds.Kind.TheVariants.{BasicPublish}
+use Rattle.amqp_typed.proofs.Places.{at_place, call_4}
+use Rattle.amqp_typed.proofs.basic.PublishRefTypedRef.of_ref.Goals as goal
+
+pub short_str_at-requires : goal.short_str_at-requires
+short_str_at-requires c = at_place (method_view c.args.method.now) BasicPublish 0 c.requires refl
+
+pub short_str_at-requires-2 : goal.short_str_at-requires-2
+short_str_at-requires-2 c = at_place (method_view c.args.method.now) BasicPublish 1 c.requires refl
+
+pub bit_at-requires : goal.bit_at-requires
+bit_at-requires c = at_place (method_view c.args.method.now) BasicPublish 2 c.requires refl
+
+pub bit_at-requires-2 : goal.bit_at-requires-2
+bit_at-requires-2 c = at_place (method_view c.args.method.now) BasicPublish 3 c.requires refl
+
+pub returns : goal.returns
+returns c =
+    call_4 _ _ c.requires c.args.method.now.fit refl
+    c.short_str_at.ensures c.short_str_at-2.ensures c.bit_at.ensures c.bit_at-2.ensures

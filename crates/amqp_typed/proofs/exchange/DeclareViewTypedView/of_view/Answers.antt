@@ -1,0 +1,34 @@
+use Rattle.std.proofs.Common.{refl}
+use Rattle.amqp_method.specs.MethodRefView.{lent_call}
+use Rattle.amqp_method.specs.declared.kinds.Kind.TheVariants.{ExchangeDeclare}
+use Rattle.amqp_typed.proofs.Places.{at_place, call_8}
+use Rattle.amqp_typed.proofs.exchange.DeclareViewTypedView.of_view.Goals as goal
+
+pub short_str_in-requires : goal.short_str_in-requires
+short_str_in-requires c = at_place (lent_call c.args.method) ExchangeDeclare 0 c.requires.1 refl
+
+pub short_str_in-requires-2 : goal.short_str_in-requires-2
+short_str_in-requires-2 c = at_place (lent_call c.args.method) ExchangeDeclare 1 c.requires.1 refl
+
+pub bit_in-requires : goal.bit_in-requires
+bit_in-requires c = at_place (lent_call c.args.method) ExchangeDeclare 2 c.requires.1 refl
+
+pub bit_in-requires-2 : goal.bit_in-requires-2
+bit_in-requires-2 c = at_place (lent_call c.args.method) ExchangeDeclare 3 c.requires.1 refl
+
+pub bit_in-requires-3 : goal.bit_in-requires-3
+bit_in-requires-3 c = at_place (lent_call c.args.method) ExchangeDeclare 4 c.requires.1 refl
+
+pub bit_in-requires-4 : goal.bit_in-requires-4
+bit_in-requires-4 c = at_place (lent_call c.args.method) ExchangeDeclare 5 c.requires.1 refl
+
+pub bit_in-requires-5 : goal.bit_in-requires-5
+bit_in-requires-5 c = at_place (lent_call c.args.method) ExchangeDeclare 6 c.requires.1 refl
+
+pub table_in-requires : goal.table_in-requires
+table_in-requires c = at_place (lent_call c.args.method) ExchangeDeclare 7 c.requires.1 refl
+
+pub returns : goal.returns
+returns c =
+    call_8 _ _ c.requires.1 c.requires.0 refl
+    c.short_str_in.ensures c.short_str_in-2.ensures c.bit_in.ensures c.bit_in-2.ensures c.bit_in-3.ensures c.bit_in-4.ensures c.bit_in-5.ensures c.table_in.ensures

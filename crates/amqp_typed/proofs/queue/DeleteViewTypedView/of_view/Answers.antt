@@ -1,0 +1,22 @@
+use Rattle.std.proofs.Common.{refl}
+use Rattle.amqp_method.specs.MethodRefView.{lent_call}
+use Rattle.amqp_method.specs.declared.kinds.Kind.TheVariants.{QueueDelete}
+use Rattle.amqp_typed.proofs.Places.{at_place, call_4}
+use Rattle.amqp_typed.proofs.queue.DeleteViewTypedView.of_view.Goals as goal
+
+pub short_str_in-requires : goal.short_str_in-requires
+short_str_in-requires c = at_place (lent_call c.args.method) QueueDelete 0 c.requires.1 refl
+
+pub bit_in-requires : goal.bit_in-requires
+bit_in-requires c = at_place (lent_call c.args.method) QueueDelete 1 c.requires.1 refl
+
+pub bit_in-requires-2 : goal.bit_in-requires-2
+bit_in-requires-2 c = at_place (lent_call c.args.method) QueueDelete 2 c.requires.1 refl
+
+pub bit_in-requires-3 : goal.bit_in-requires-3
+bit_in-requires-3 c = at_place (lent_call c.args.method) QueueDelete 3 c.requires.1 refl
+
+pub returns : goal.returns
+returns c =
+    call_4 _ _ c.requires.1 c.requires.0 refl
+    c.short_str_in.ensures c.bit_in.ensures c.bit_in-2.ensures c.bit_in-3.ensures

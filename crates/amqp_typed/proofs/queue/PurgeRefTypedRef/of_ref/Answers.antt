@@ -1,0 +1,16 @@
+use Rattle.std.proofs.Common.{refl}
+use Rattle.amqp_method.specs.MethodView.{method_view}
+use Rattle.amqp_method.specs.declared.kinds.Kind.TheVariants.{QueuePurge}
+use Rattle.amqp_typed.proofs.Places.{at_place, call_2}
+use Rattle.amqp_typed.proofs.queue.PurgeRefTypedRef.of_ref.Goals as goal
+
+pub short_str_at-requires : goal.short_str_at-requires
+short_str_at-requires c = at_place (method_view c.args.method.now) QueuePurge 0 c.requires refl
+
+pub bit_at-requires : goal.bit_at-requires
+bit_at-requires c = at_place (method_view c.args.method.now) QueuePurge 1 c.requires refl
+
+pub returns : goal.returns
+returns c =
+    call_2 _ _ c.requires c.args.method.now.fit refl
+    c.short_str_at.ensures c.bit_at.ensures
