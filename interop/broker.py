@@ -160,6 +160,14 @@ def exchanges():
         found = [int(routes(channel, "b.headers", "", each) is True) for each in properties]
         says(f"pika: headers, x-match {match}", wanted, found)
         channel.queue_unbind(queue, "b.headers", "", arguments)
+    headers = pika.BasicProperties(headers=asked)
+    channel.queue_bind(queue, "b.headers", "", asked)
+    channel.queue_unbind(queue, "b.headers", "", dict(reversed(asked.items())))
+    says("pika: a binding's arguments in another order", False, routes(channel, "b.headers", "", headers) is True)
+    channel.queue_bind(queue, "b.headers", "", {"a": pika.compat.long(1)})
+    says("pika: headers, a number of another width", True, routes(channel, "b.headers", "", headers))
+    channel.queue_bind("", "amq.direct", "")
+    says("pika: bound by the queue declared last", True, routes(channel, "amq.direct", queue))
     # one message to two queues, and one queue with two bindings gets it once
     other = channel.queue_declare("", exclusive=True).method.queue
     channel.queue_purge(queue)
@@ -585,6 +593,16 @@ def idle_raw(heartbeat):
     return (beats >= 2 and 1.5 * heartbeat <= lasted <= 3 * heartbeat) or (beats, lasted)
 
 
+def idle_before_login(_):
+    """A client that connects and says nothing is given up."""
+    begun = time.monotonic()
+    stream = socket.create_connection(("127.0.0.1", PORT), timeout=60)
+    while received(stream):
+        pass
+    lasted = time.monotonic() - begun
+    return lasted <= 45 or lasted
+
+
 def idle():
     """All at once, so that it takes one minute."""
     found = {}
@@ -599,6 +617,7 @@ def idle():
     runs = [(f"{name}: idle for a minute, a heartbeat of {beat}", client, beat) for name, client in clients
             for beat in (2, 10)]
     runs.append(("raw: a client that falls silent is given up", idle_raw, 4))
+    runs.append(("raw: a client that never logs in is given up", idle_before_login, 0))
     threads = [threading.Thread(target=run, args=each) for each in runs]
     for thread in threads:
         thread.start()
@@ -606,6 +625,24 @@ def idle():
         thread.join()
     for what, _, _ in runs:
         says(what, True, found[what])
+
+
+# A publisher that says when it is blocked, and waits.
+KILLED = """
+import sys, pika
+where = pika.ConnectionParameters("127.0.0.1", int(sys.argv[1]), heartbeat=0)
+connection = pika.BlockingConnection(where)
+told = []
+connection.add_on_connection_blocked_callback(lambda _connection, _frame: told.append(1))
+channel = connection.channel()
+channel.queue_declare("b.own", exclusive=True)
+for _ in range(6):
+    channel.basic_publish("", "b.own", bytes(50_000_000))
+while not told:
+    connection.process_data_events(0.5)
+print("blocked", flush=True)
+connection.sleep(600)
+"""
 
 
 def blocked():
@@ -616,6 +653,8 @@ def blocked():
     publisher.add_on_connection_blocked_callback(lambda _connection, frame: told.append(frame.method.reason))
     publisher.add_on_connection_unblocked_callback(lambda _connection, _frame: told.append(None))
     channel.queue_declare("b.large")
+    # who published before isn't held
+    other.channel().basic_publish("", "b.large", b"small")
     for _ in range(6):
         channel.basic_publish("", "b.large", bytes(50_000_000))
     until = time.monotonic() + 60
@@ -629,6 +668,14 @@ def blocked():
     says("pika: and that it is not any more", ["low on memory", None], told)
     channel.queue_delete("b.large")
     publisher.close()
+    killed = subprocess.Popen([sys.executable, "-c", KILLED, str(PORT)], stdout=subprocess.PIPE)
+    says("pika: another publisher is blocked", b"blocked\n", killed.stdout.readline())
+    killed.kill()
+    killed.wait()
+    channel = other.channel()
+    channel.confirm_delivery()
+    channel.queue_declare("b.small", exclusive=True)
+    says("pika: what it held is gone with it", True, routes(channel, "", "b.small"))
     other.close()
 
 

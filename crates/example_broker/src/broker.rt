@@ -6,9 +6,8 @@ use crate::fault::{Answer, Done, Fault, refused};
 use crate::messages::{Content, Share};
 use crate::queues::{Place, QueueId, Queues};
 use amqp_core::{AskFault, Event};
-use amqp_method::{Kind, Message, Method, reply};
+use amqp_method::{Kind, Message, reply};
 use amqp_typed::basic::{AnyMethod as Basic, Publish};
-use amqp_typed::confirm::AnyMethod as Confirm;
 use amqp_typed::exchange::AnyMethod as Exchange;
 use amqp_typed::queue::AnyMethod as Queue;
 use amqp_typed::{AnyMethod, Typed};
@@ -20,8 +19,11 @@ use std::cell::Cell;
 use std::collections::BTreeMap;
 use std::rc::Rc;
 
-/// Where messages hold more octets, those who publish have to wait.
-const BOUND: usize = 268_435_456;
+/// Where messages hold more octets, those who publish have to wait. No connection may have more under way either.
+pub const BOUND: usize = 268_435_456;
+
+/// A table takes about so many times the memory that it takes in a header.
+const SPREAD: u64 = 16;
 
 #[derive(Drop)]
 pub struct Broker {
@@ -35,6 +37,8 @@ pub struct Broker {
     pub names: BTreeMap<Vec<u8>, QueueId>,
     /// the last number that was given to a queue or a consumer
     last_id: u64,
+    /// the number from which queues are asked first for what they send
+    first: QueueId,
 }
 
 impl Broker {
@@ -49,6 +53,7 @@ impl Broker {
             queues: BTreeMap::new(alloc),
             names: BTreeMap::new(alloc),
             last_id: 0,
+            first: 0,
         };
         broker.add_standard_exchanges()?;
         Ok(broker)
@@ -114,12 +119,9 @@ impl Broker {
         let kind = message.method().kind();
         let is_answered = message.method().is_request() || kind.has_content();
         match self.answer(at, message) {
-            Ok(Some(method)) if is_answered => {
-                if let Ok(answer) = Message::try_plain(method) {
-                    let end = &mut self.connection(at.0)?.link.end;
-                    end.send(at.1, &answer)?;
-                }
-                Ok(())
+            Ok(Some(answer)) if is_answered => {
+                let end = &mut self.connection(at.0)?.link.end;
+                Ok(end.send(at.1, &answer)?)
             }
             Ok(_) => Ok(()),
             Err(fault) => {
@@ -136,10 +138,12 @@ impl Broker {
             let Ok(publish) = Publish::from_method(method) else {
                 return Ok(None);
             };
+            let header = usize::try_from(properties.header_length().saturating_mul(SPREAD));
+            let octets = body.len().saturating_add(header.unwrap_or(usize::MAX));
             let content = Content {
                 publish,
                 properties,
-                share: Share::new(body.len(), &self.held)?,
+                share: Share::new(octets, &self.held)?,
                 body,
             };
             return self.publish(at, content);
@@ -154,7 +158,7 @@ impl Broker {
             AnyMethod::Queue(Queue::Purge(purge)) => self.purge_queue(at, purge),
             AnyMethod::Queue(Queue::Delete(delete)) => self.delete_queue(at, delete),
             AnyMethod::Basic(method) => self.answer_basic(at, method),
-            AnyMethod::Confirm(Confirm::Select(_)) => self.select_confirms(at),
+            AnyMethod::Confirm(_) => self.select_confirms(at),
             AnyMethod::Tx(_) => refused(reply::NOT_IMPLEMENTED, "transactions", None),
             // no client sends any other
             _ => Ok(None),
@@ -213,6 +217,22 @@ impl Broker {
         Ok(())
     }
 
+    /// Each queue sends what it can. Who sent first is asked last the next time, so that none waits for ever.
+    fn deliver(&mut self) {
+        let (first, mut sender) = (self.first, None);
+        for (id, queue) in self.queues.iter_mut() {
+            if *id >= first && queue.deliver(&mut self.connections) {
+                sender = sender.or(Some(*id));
+            }
+        }
+        for (id, queue) in self.queues.iter_mut() {
+            if *id < first && queue.deliver(&mut self.connections) {
+                sender = sender.or(Some(*id));
+            }
+        }
+        self.first = sender.map_or(first, |id| id.saturating_add(1));
+    }
+
     /// A connection is gone: its channels and its exclusive queues are.
     fn remove_connection(&mut self, id: usize) -> Done {
         self.close_channels(id)?;
@@ -246,21 +266,17 @@ impl Program for Broker {
 
     /// Gives each connection a turn, and each queue: it sends its messages to its consumers.
     fn turn(&mut self, _: &impl Print, ticks: bool, room: &mut [u8]) -> anyhow::Result<()> {
+        let is_short = self.held.get() > BOUND;
         let ids = self.connections.keys().copied();
         let ids: Vec<usize> = ids.collect(self.alloc)?;
         for id in ids {
-            let is_short = self.held.get() > BOUND;
-            let connection = self.connection(id)?;
-            let count = connection.turn(is_short, ticks, room);
-            if connection.link.is_done() {
+            let count = self.connection(id)?.turn(is_short, ticks, room);
+            self.hear(id, &room[..count])?;
+            if self.connection(id)?.link.is_done() {
                 self.remove_connection(id)?;
-            } else {
-                self.hear(id, &room[..count])?;
             }
         }
-        for queue in self.queues.values_mut() {
-            queue.deliver(&mut self.connections);
-        }
+        self.deliver();
         Ok(())
     }
 }

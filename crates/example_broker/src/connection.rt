@@ -1,6 +1,7 @@
 //! A connection with its channels, and the messages that are sent on it.
 ghost use Rattle.std.specs.Prelude.{◌≤◌, length};
 
+use crate::broker::BOUND;
 use crate::channel::{Channel, Delivery};
 use crate::fault::{Done, Fault};
 use crate::queues::{Queue, count};
@@ -28,6 +29,7 @@ pub struct Connection {
     pub channels: BTreeMap<u16, Channel>,
     /// The client wants to be told that it is held.
     pub hears_blocked: bool,
+    /// The client published since memory is short, or since its last turn.
     pub publishes: bool,
     /// The client isn't read: it publishes, and memory is short.
     is_blocked: bool,
@@ -56,8 +58,10 @@ impl Connection {
     pub fn turn(&mut self, is_short: bool, has_ticked: bool, room: &mut [u8]) -> usize
         ensures { result ≤ length room.new }
     {
+        self.publishes = is_short && (self.publishes || self.link.end.gathered_in_all() > 0);
         // refused where the connection closes, and then the client needn't know
-        drop(self.block(is_short && self.publishes));
+        drop(self.block(self.publishes));
+        self.link.is_gone |= self.link.end.kept() > BOUND;
         if has_ticked {
             self.link.tick();
         }

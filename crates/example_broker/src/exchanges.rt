@@ -22,11 +22,21 @@ const STANDARD: [(&str, &str); 5] = [
     ("amq.match", "headers"),
 ];
 
-#[derive(Drop, PartialEq, Eq)]
+#[derive(Drop)]
 pub struct Binding {
     queue: QueueId,
     key: ShortStr,
     arguments: Table,
+}
+
+impl Binding {
+    /// Whether it is the same, in whatever order its arguments stand.
+    fn is_same(&self, other: &Binding) -> bool {
+        let (own, others) = (self.arguments.pairs(), &other.arguments);
+        let is_there = |pair: &(ShortStr, Value)| others.get(pair.0.as_bytes()) == Some(&pair.1);
+        let are_alike = own.len() == others.len() && own.iter().all(is_there);
+        self.queue == other.queue && self.key == other.key && are_alike
+    }
 }
 
 #[derive(Drop)]
@@ -43,7 +53,7 @@ impl Exchange {
     pub fn unbind(&mut self, queue: QueueId, only: Option<&Binding>) -> bool {
         let before = self.bindings.len();
         self.bindings.retain(|own| match only {
-            Some(only) => *own != *only,
+            Some(only) => !own.is_same(only),
             None => own.queue != queue,
         });
         self.declare.auto_delete && before > 0 && self.bindings.is_empty()
@@ -61,10 +71,12 @@ impl Exchange {
                 b"topic" => topic_matches(alloc, &binding.key, key)?,
                 _ => headers_match(alloc, &binding.arguments, headers)?,
             };
-            if matches && !queues.contains(&binding.queue) {
+            if matches {
                 queues.push(binding.queue)?;
             }
         }
+        queues.sort_unstable();
+        queues.dedup();
         Ok(queues)
     }
 }
@@ -80,11 +92,21 @@ fn headers_match(
     for (name, wanted) in arguments.pairs() {
         if !name.as_bytes().starts_with(b"x-") {
             let value = headers.and_then(|headers| headers.get(name.as_bytes()));
-            tests.push(value.is_some_and(|value| *wanted == Value::Void || *wanted == *value))?;
+            tests.push(value.is_some_and(|value| *wanted == Value::Void
+                || are_equal(wanted, value)))?;
         }
     }
     let x_match = arguments.get(b"x-match").and_then(Value::as_bytes);
     Ok(tests_suffice(x_match == Some(b"any".as_slice()), &tests))
+}
+
+/// Whether two values are the same: whole numbers of any width, and octets under either tag.
+fn are_equal(wanted: &Value, value: &Value) -> bool {
+    match (wanted.as_i64(), wanted.as_bytes()) {
+        (Some(number), _) => value.as_i64() == Some(number),
+        (None, Some(octets)) => value.as_bytes() == Some(octets),
+        (None, None) => *wanted == *value,
+    }
 }
 
 /// Whether so many tests hold as a binding asks for: one of them, or all.
@@ -187,29 +209,38 @@ impl Broker {
         answer(exchange::DeleteOk::new().into_method(self.alloc))
     }
 
-    pub fn bind_queue(&mut self, at: Place, bind: queue::Bind) -> Answer {
-        let (queue, key) = (self.queue(at, &bind.queue)?.id, bind.routing_key);
-        let binding = Binding {
+    /// A binding of a queue. Where neither its name nor a key is given, the key is the name of the queue declared last.
+    fn binding(
+        &mut self,
+        at: Place,
+        name: ShortStr,
+        mut key: ShortStr,
+        arguments: Table,
+    ) -> Result<Binding, Fault> {
+        let queue = self.queue(at, &name)?.id;
+        if name.is_empty() && key.is_empty() {
+            key = self.queue_name(at, &name)?;
+        }
+        Ok(Binding {
             queue,
             key,
-            arguments: bind.arguments,
-        };
+            arguments,
+        })
+    }
+
+    pub fn bind_queue(&mut self, at: Place, bind: queue::Bind) -> Answer {
+        let binding = self.binding(at, bind.queue, bind.routing_key, bind.arguments)?;
         let bindings = &mut self.exchange(&bind.exchange)?.bindings;
-        if !bindings.contains(&binding) {
+        if !bindings.iter().any(|own| own.is_same(&binding)) {
             bindings.push(binding)?;
         }
         answer(queue::BindOk::new().into_method(self.alloc))
     }
 
     pub fn unbind_queue(&mut self, at: Place, unbind: queue::Unbind) -> Answer {
-        let (queue, key) = (self.queue(at, &unbind.queue)?.id, unbind.routing_key);
-        let binding = Binding {
-            queue,
-            key,
-            arguments: unbind.arguments,
-        };
+        let binding = self.binding(at, unbind.queue, unbind.routing_key, unbind.arguments)?;
         let exchange = self.exchange(&unbind.exchange)?;
-        if exchange.unbind(queue, Some(&binding)) {
+        if exchange.unbind(binding.queue, Some(&binding)) {
             self.exchanges.remove(unbind.exchange.as_bytes());
         }
         answer(queue::UnbindOk::new().into_method(self.alloc))

@@ -1,6 +1,6 @@
 //! What comes of a method: an answer, or why it isn't done.
 use amqp_core::AskFault;
-use amqp_method::{Method, OutOfMemory, reply};
+use amqp_method::{Message, Method, OutOfMemory, reply};
 use amqp_value::{ShortStr, ValueFault};
 use std::alloc::{AllocError, Global};
 use thiserror::Error;
@@ -27,10 +27,10 @@ pub enum Fault {
 pub type Done = Result<(), Fault>;
 
 /// What a method is answered, unless the client wants no answer.
-pub type Answer = Result<Option<Method>, Fault>;
+pub type Answer = Result<Option<Message>, Fault>;
 
 pub fn answer(method: Result<Method, OutOfMemory>) -> Answer {
-    Ok(Some(method?))
+    Ok(Message::try_plain(method?).ok())
 }
 
 /// Refuses a method. The codes are RabbitMQ's.

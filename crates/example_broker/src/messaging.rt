@@ -1,5 +1,5 @@
 //! Messages: published, consumed, fetched, acknowledged.
-use crate::broker::Broker;
+use crate::broker::{BOUND, Broker};
 use crate::channel::Consumer;
 use crate::credit::Credit;
 use crate::fault::{Answer, Done, answer, refused};
@@ -40,6 +40,10 @@ impl Broker {
 
     /// Sends back a message that no queue takes.
     fn send_back(&mut self, at: Place, content: Content) -> Done {
+        if !self.channel(at)?.is_flowing {
+            let why = "a return is due while the channel is paused";
+            return refused(reply::PRECONDITION_FAILED, why, None);
+        }
         let text = ShortStr::text(self.alloc, "NO_ROUTE")?;
         let (exchange, key) = (content.publish.exchange, content.publish.routing_key);
         let returned = basic::Return::new(reply::NO_ROUTE, text, exchange, key);
@@ -65,6 +69,7 @@ impl Broker {
             channel.credit.set_limit(qos.prefetch_count);
         } else {
             channel.prefetch = qos.prefetch_count;
+            channel.credit.set_limit(0);
         }
         answer(basic::QosOk::new().into_method(self.alloc))
     }
@@ -114,6 +119,9 @@ impl Broker {
         let id = self.queue(at, &get.queue)?.id;
         let queue = self.queues.get_mut(&id).ok_or(AskFault::NotOpen)?;
         let connection = self.connections.get_mut(&at.0).ok_or(AskFault::NotOpen)?;
+        if connection.link.end.waiting_in_all() > BOUND {
+            return refused(reply::RESOURCE_ERROR, "too much is not read", None);
+        }
         if connection.send_first(queue, at.1, None, get.no_ack)? {
             return Ok(None);
         }

@@ -36,9 +36,10 @@ pub struct Queue {
 }
 
 impl Queue {
-    /// Sends messages to the consumers by turns, until there are none or no consumer may be sent one.
-    pub fn deliver(&mut self, connections: &mut BTreeMap<usize, Connection>) {
-        let mut passed = 0;
+    /// Sends messages to the consumers by turns, until there are none or no consumer may be sent one. It answers whether
+    /// it sent any.
+    pub fn deliver(&mut self, connections: &mut BTreeMap<usize, Connection>) -> bool {
+        let (mut passed, mut has_sent) = (0, false);
         for _ in 0..u64::MAX {
             if passed >= self.consumers.len() || self.messages.count() == 0 {
                 break;
@@ -49,18 +50,21 @@ impl Queue {
                 && let Some(connection) = connections.get_mut(&at.0)
             {
                 match connection.offer(self, at.1, id) {
-                    Ok(true) => passed = 0,
+                    Ok(true) => (passed, has_sent) = (0, true),
                     Ok(false) => {}
                     Err(_) => connection.link.is_gone = true,
                 }
             }
         }
+        has_sent
     }
 }
 
-/// A declaration of a queue with this name as it is kept, and compared with a later one.
+/// A declaration of a queue with this name as it is kept, and compared with a later one. What is exclusive ends with its
+/// connection, durable or not.
 fn kept(mut declare: Declare, name: ShortStr, alloc: Global) -> Declare {
     declare.queue = name;
+    declare.durable &= !declare.exclusive;
     declare.no_wait = false;
     declare.arguments = Table::new(alloc);
     declare
@@ -73,7 +77,7 @@ pub fn count(number: usize) -> u32 {
 
 impl Broker {
     /// The name of a queue that a method means: an empty one stands for the one declared last on the channel.
-    fn queue_name(&mut self, at: Place, name: &ShortStr) -> Result<ShortStr, Fault> {
+    pub fn queue_name(&mut self, at: Place, name: &ShortStr) -> Result<ShortStr, Fault> {
         if name.is_empty() {
             return Ok(self.channel(at)?.last_queue.copy()?);
         }
@@ -140,11 +144,7 @@ impl Broker {
         } else if own.exclusive != declare.exclusive {
             return refused(reply::RESOURCE_LOCKED, "another has queue", name);
         }
-        refused(
-            reply::PRECONDITION_FAILED,
-            "declared otherwise: queue",
-            name,
-        )
+        refused(reply::PRECONDITION_FAILED, "declared otherwise:", name)
     }
 
     pub fn delete_queue(&mut self, at: Place, delete: queue::Delete) -> Answer {
@@ -173,11 +173,9 @@ impl Broker {
     pub fn remove_consumer(&mut self, id: QueueId, consumer: u64) {
         if let Some(queue) = self.queues.get_mut(&id) {
             queue.consumers.retain(|seat| seat.1 != consumer);
-            if queue.consumers.is_empty() {
-                queue.is_taken = false;
-                if queue.declare.auto_delete {
-                    self.remove_queue(id);
-                }
+            queue.is_taken &= !queue.consumers.is_empty();
+            if queue.consumers.is_empty() && queue.declare.auto_delete {
+                self.remove_queue(id);
             }
         }
     }

@@ -13,7 +13,7 @@ pub trait AnyEnd: Drop {
     fn heartbeat(&self) -> u16;
 
     fn beat(&mut self) -> Result<(), AskFault>;
-    /// How many frames came, and how many octets were written.
+    /// How many octets were taken, and how many were written.
     fn counts(&self) -> (u64, u64);
 }
 
@@ -41,7 +41,7 @@ impl<R: Role> AnyEnd for End<R> {
     }
 
     fn counts(&self) -> (u64, u64) {
-        (self.frames_taken(), self.octets_written())
+        (self.octets_taken(), self.octets_written())
     }
 }
 
@@ -69,6 +69,6 @@ impl<R: Role> AnyEnd for StreamEnd<R> {
     }
 
     fn counts(&self) -> (u64, u64) {
-        (self.frames_taken(), self.octets_written())
+        (self.octets_taken(), self.octets_written())
     }
 }

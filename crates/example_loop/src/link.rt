@@ -24,6 +24,8 @@ pub struct Link<E: AnyEnd> {
     pub is_gone: bool,
     /// Its owner doesn't want it read for now.
     pub is_held: bool,
+    /// The peer sends no more. What it sent is read though it is held, so that it is seen to be gone.
+    has_left: bool,
     pulse: Pulse,
 }
 
@@ -36,13 +38,15 @@ impl<E: AnyEnd> Link<E> {
             can_write: true,
             is_gone: false,
             is_held: false,
+            has_left: false,
             pulse: Pulse::default(),
         }
     }
 
     /// Notes that the socket is ready.
     pub fn note(&mut self, event: &event::Event) {
-        self.can_read |= event.is_readable() || event.is_read_closed();
+        self.has_left |= event.is_read_closed();
+        self.can_read |= event.is_readable() || self.has_left;
         self.can_write |= event.is_writable();
     }
 
@@ -59,7 +63,12 @@ impl<E: AnyEnd> Link<E> {
     /// Whether there is something to do at once.
     pub fn has_work(&self) -> bool {
         let can_write = self.can_write && !self.is_gone && self.end.has_output();
-        can_write || (self.can_read && !self.is_held && !self.is_over())
+        can_write || self.is_read()
+    }
+
+    /// Whether it is read now.
+    fn is_read(&self) -> bool {
+        self.can_read && (self.has_left || !self.is_held) && !self.is_over()
     }
 
     /// Reads once what is there. It answers how many octets came.
@@ -67,7 +76,7 @@ impl<E: AnyEnd> Link<E> {
         ensures within { result ≤ length room.new }
         ensures end { self.new.end ≡ self.old.end }
     {
-        if !self.can_read || self.is_held || self.is_over() {
+        if !self.is_read() {
             return 0;
         }
         match self.stream.read(room) {
@@ -91,10 +100,14 @@ impl<E: AnyEnd> Link<E> {
     }
 
     /// Half a second passed: puts a heartbeat if one is due, and gives up a peer that fell silent though it is read.
+    /// In the handshake and in a close a peer may be silent for half a minute.
     pub fn tick(&mut self) {
-        let (frames, octets) = self.end.counts();
-        self.pulse.tick(frames, octets, !self.is_held);
-        let heartbeat = self.end.heartbeat();
+        let (came, went) = self.end.counts();
+        self.pulse.tick(came, went, !self.is_held);
+        let heartbeat = match self.end.phase() {
+            Phase::Running => self.end.heartbeat(),
+            _ => 15,
+        };
         if heartbeat > 0 && self.pulse.is_over(heartbeat) {
             self.is_gone = true;
         } else if heartbeat > 0 && self.pulse.owes_beat(heartbeat) && !self.end.has_output() {

@@ -2,25 +2,25 @@
 ghost use Rattle.std.specs.Prelude.{◌≡◌, ◌↔◌, ◌≤◌, ◌<◌, ◌*◌, ◌⊎◌, ◌==◌, ◌&&◌, IsTrue};
 ghost use Rattle.example_loop.specs.Pulses.{ticks_after};
 
-/// How many ticks of half a second passed with the same counts of frames taken, and of octets written.
+/// How many ticks of half a second passed with the same counts of octets taken, and of octets written.
 #[derive(Clone, Copy, Default)]
 pub struct Pulse {
-    frames: u64,
-    octets: u64,
+    came: u64,
+    went: u64,
     silent: u32,
     idle: u32,
 }
 
 impl Pulse {
-    /// A tick is over, at these counts. Of a connection that isn't read no frame is missed.
-    pub fn tick(&mut self, frames: u64, octets: u64, is_read: bool)
-        ensures silent { self.new.silent ≡ ticks_after (is_read && frames == self.old.frames) self.old.silent }
-        ensures idle { self.new.idle ≡ ticks_after (octets == self.old.octets) self.old.idle }
-        ensures counts { (self.new.frames ≡ frames) × (self.new.octets ≡ octets) }
+    /// A tick is over, at these counts. Of a connection that isn't read nothing is missed.
+    pub fn tick(&mut self, came: u64, went: u64, is_read: bool)
+        ensures silent { self.new.silent ≡ ticks_after (is_read && came == self.old.came) self.old.silent }
+        ensures idle { self.new.idle ≡ ticks_after (went == self.old.went) self.old.idle }
+        ensures counts { (self.new.came ≡ came) × (self.new.went ≡ went) }
     {
-        self.silent = ticks_after(is_read && frames == self.frames, self.silent);
-        self.idle = ticks_after(octets == self.octets, self.idle);
-        (self.frames, self.octets) = (frames, octets);
+        self.silent = ticks_after(is_read && came == self.came, self.silent);
+        self.idle = ticks_after(went == self.went, self.idle);
+        (self.came, self.went) = (came, went);
     }
 
     /// Whether nothing went for half a heartbeat, which is in seconds.
