@@ -74,7 +74,6 @@ impl<R: Role> Peer<R> {
         if let Some(heard) = heard {
             if self.log && !matches!(heard.event, EventRef::Heads(..) | EventRef::Part(..)) {
                 let name = if R::is_client() { "broker" } else { "client" };
-                // a log that can't be written stops nobody
                 drop(println!(rt; "{name} {}", heard.event));
             }
             other.hear_of(&mut self.channels, &heard)?;
