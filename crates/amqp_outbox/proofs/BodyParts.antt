@@ -41,7 +41,7 @@ left_by false a room n long some e = left_long a room n some e (is_long n room l
 left : (a room n : ℕ) → 0 < room → n ≡ suc a → a / room ≡ (n - room + room - 1) / room
 left a room n some e = left_by (nat_lt n room) a room n refl some e
 
-counted : (room n : ℕ) → 0 < room → 0 < n → (n + room - 1) / room ≡ suc ((n - room + room - 1) / room)
+pub counted : (room n : ℕ) → 0 < room → 0 < n → (n + room - 1) / room ≡ suc ((n - room + room - 1) / room)
 counted room zero some more = absurd (omega arith)
 counted room (suc a) some more = first_count a room (suc a) some refl ∙ ap suc (left a room (suc a) some refl)
 

@@ -1,4 +1,5 @@
 pub mod BodyParts
+mod BodyToCome
 mod ChunkLemmas
 mod LentBraids
 mod LentLemmas

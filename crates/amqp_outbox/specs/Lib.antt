@@ -7,6 +7,7 @@ pub mod OutboxFrames
 pub mod OutboxFaults
 pub mod LentContent
 pub mod LentFrames
+pub mod BodyToCome
 pub mod StagesChunks
 pub mod PiecesQueues
 pub mod PiecesFields

@@ -1,4 +1,6 @@
--- Why a frame can't be staged, and why nothing is handed over.
+-- Why a frame can't be staged, why nothing is handed over, and why octets of a body aren't written.
+use Rattle.amqp_outbox.specs.declared.body.BodyFault.{BodyFault}
+use Rattle.amqp_outbox.specs.declared.body.BodyFault.TheVariants as body_faults
 use Rattle.amqp_outbox.specs.declared.handing.HandOverFault.{HandOverFault}
 use Rattle.amqp_outbox.specs.declared.handing.HandOverFault.TheVariants.{Begun}
 use Rattle.amqp_outbox.specs.declared.staging.StageFault.{StageFault}
@@ -12,3 +14,6 @@ too_long = TooLong
 
 abbrev pub begun : HandOverFault
 begun = Begun
+
+abbrev pub longer_than_body : BodyFault
+longer_than_body = body_faults.TooLong

@@ -2,7 +2,7 @@
 ghost use Rattle.std.specs.Prelude.{◌≡◌, ◌+◌, ◌<◌, ◌≤◌, ◌==◌, [], ◌++◌, length, take, drop, vec_len, vec_capacity, IfErr, OnOk, OnErr};
 ghost use Rattle.amqp_outbox.specs.Chunks.{joined_after};
 
-use std::alloc::{AllocFailed, Global};
+use std::alloc::{AllocError, AllocFailed, Global};
 use std::collections::VecDeque;
 use std::marker::Model;
 
@@ -71,6 +71,17 @@ impl Chunks {
         };
         self.later.push_back(chunk)?;
         self.left = left;
+        Ok(())
+    }
+
+    /// Takes all octets off and appends them to others. Where there is no memory, both stay as they were.
+    pub fn append_to(&mut self, octets: &mut Vec<u8>) -> Result<(), AllocError>
+        ensures ok { OnOk result ((octets.new.items ≡ octets.old.items ++ self.old) × (self.new ≡ [])) }
+        ensures same { OnErr result ((octets.new.items ≡ octets.old.items) × (self.new ≡ self.old)) }
+    {
+        let count = self.len();
+        octets.reserve(count)?;
+        self.move_into(count, octets);
         Ok(())
     }
 

@@ -7,6 +7,7 @@
 //! may come out of [`Chunks`], which lets their octets go as they are staged.
 #![tactic(auto)]
 
+mod body;
 mod chunks;
 mod handing;
 mod lending;
@@ -23,6 +24,7 @@ mod slots;
 mod staging;
 mod weaving;
 
+pub use crate::body::{BodyFault, BodyWriter};
 pub use crate::chunks::Chunks;
 pub use crate::handing::HandOverFault;
 pub use crate::lending::Pieces;
