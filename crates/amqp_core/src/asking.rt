@@ -2,7 +2,7 @@
 //!
 //! The refusals come first, and change nothing. Then all is done that may want memory, the frames being staged; then
 //! the state changes, and the frames are put, which can't fail.
-ghost use Rattle.std.specs.Prelude.{◌≡◌, ◌<◌, [], Some, IfOk, IfErr, OnOk, true, OnErr};
+ghost use Rattle.std.specs.Prelude.{◌≡◌, ◌<◌, ℕ, List, [], ◌++◌, length, take, Some, IfOk, IfErr, OnOk, true, OnErr};
 ghost use Rattle.amqp_frame.specs.Splitting.{stream};
 ghost use Rattle.amqp_method.specs.HeaderView.{properties_view};
 ghost use Rattle.amqp_method.specs.Kinds.{has_content};
@@ -11,6 +11,7 @@ ghost use Rattle.amqp_model.specs.End.Asks as asks;
 ghost use Rattle.amqp_model.specs.End.Asks.{frames_asked, lowest_free};
 ghost use Rattle.amqp_model.specs.End.Machine.{end_after_put};
 ghost use Rattle.amqp_model.specs.End.ReadingBack.{AskReadsBack};
+ghost use Rattle.amqp_outbox.specs.BodyToCome.{octets_left, still_to_write};
 ghost use Rattle.amqp_outbox.specs.LentFrames.{content_left};
 ghost use Rattle.amqp_channel.specs.Events.EventView.{message_of};
 ghost use Rattle.amqp_core.specs.Asks.View.{lent_view};
@@ -29,7 +30,7 @@ use crate::sending;
 use crate::stage::Stage;
 use amqp_channel::Channel;
 use amqp_method::{Kind, Method, Properties};
-use amqp_outbox::{Chunks, ContentFrames, Outbox};
+use amqp_outbox::{BodyWriter, Chunks, ContentFrames, Outbox};
 use amqp_value::ShortStr;
 
 impl Connection {
@@ -159,6 +160,51 @@ impl Connection {
             unreachable!()
         };
         Ok(frames)
+    }
+
+    /// Sends a method and the header of its content on a channel, whose body of so many octets is still to come: they go
+    /// to `octets`, and nothing is put.
+    pub(crate) fn begin_content(
+        &mut self,
+        number: u16,
+        method: &Method,
+        properties: &Properties,
+        size: u64,
+        octets: &mut Vec<u8>,
+    ) -> Result<BodyWriter, AskFault>
+        requires content { has_content (method_view method.now).kind ≡ true }
+        ensures allowed { OnOk result ((body : List ℕ) → length body ≡ size → IsAllowed self.old.settings
+            (connection_end self.old) (content_asked number (method_view method.now) (properties_view properties.now)
+            body)) }
+        ensures end { OnOk result ((body : List ℕ) → length body ≡ size → connection_end self.new
+            ≡ end_after_put (role_for self.old.settings)
+            (config_view self.old.settings) (frames_asked (connection_end self.old)
+            (content_asked number (method_view method.now) (properties_view properties.now) body))
+            (connection_end self.old)) }
+        ensures reads_back { OnOk result ((body : List ℕ) → length body ≡ size → AskReadsBack
+            (content_asked number (method_view method.now) (properties_view properties.now) body)) }
+        ensures begun { IfOk result (λ writer. (body : List ℕ) → length body ≡ size
+            → octets.new.items ++ still_to_write writer body ≡ octets.old.items ++ stream (frames_asked
+            (connection_end self.old)
+            (content_asked number (method_view method.now) (properties_view properties.now) body))) }
+        ensures left { IfOk result (λ writer. octets_left writer ≡ size) }
+        ensures above { OnOk result (0 < number) }
+        ensures refused { IfErr result (λ fault. (body : List ℕ) → IsRefusal self.old.settings
+            (connection_end self.old) (content_asked number (method_view method.now) (properties_view properties.now)
+            body) fault) }
+        ensures same { OnErr result (connection_end self.new ≡ connection_end self.old) }
+        ensures kept { OnErr result (octets.new.items ≡ octets.old.items) }
+        ensures stays { take (length octets.old.items) octets.new.items ≡ octets.old.items }
+        ensures settings { self.new.settings ≡ self.old.settings }
+    {
+        let agreed = self.allow_content(number, method, properties)?;
+        let site = self.site(number, agreed.channel_max);
+        let frame_max = agreed.frame_max;
+        let writer = sending::begin_frames(octets, number, frame_max, method, properties, size)?;
+        let Ok(()) = self.channels.put_message(self.alloc, site, method) else {
+            unreachable!()
+        };
+        Ok(writer)
     }
 
     /// Asks the other end to send contents on a channel, or no more of them.

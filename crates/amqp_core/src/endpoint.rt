@@ -2,7 +2,7 @@
 //!
 //! A server compares the first octets with the protocol header. All others go to the splitter, which lends each frame
 //! from the piece where it lies whole in it; the frame is taken while it is lent, so a body is copied once.
-ghost use Rattle.std.specs.Prelude.{◌≡◌, ◌≢◌, ◌+◌, ◌<◌, ◌≤◌, length, true, false, [], Some, None, Ok, IsOk, IfOk};
+ghost use Rattle.std.specs.Prelude.{◌≡◌, ◌≢◌, ◌+◌, ◌<◌, ◌≤◌, ℕ, List, ◌++◌, length, take, true, false, [], Some, None, Ok, IsOk, IfOk};
 ghost use Rattle.std.specs.Prelude.{IfErr, OnOk, OnErr};
 ghost use Rattle.amqp_method.specs.HeaderView.{properties_view};
 ghost use Rattle.amqp_method.specs.Kinds.{has_content};
@@ -16,6 +16,7 @@ ghost use Rattle.amqp_model.specs.End.Fitting.{ConfigWrites, IfAgreedFits};
 ghost use Rattle.amqp_model.specs.Stream.Octets.{opening_written};
 ghost use Rattle.amqp_model.specs.Output.Outputs.{output_octets};
 ghost use Rattle.amqp_model.specs.Stream.Pieces.{reads_frames};
+ghost use Rattle.amqp_outbox.specs.BodyToCome.{octets_left, still_to_write};
 ghost use Rattle.amqp_outbox.specs.LentFrames.{content_left};
 ghost use Rattle.amqp_outbox.specs.OutboxView.{begins_with};
 ghost use Rattle.amqp_channel.specs.Roles.{role_of};
@@ -55,7 +56,7 @@ use amqp_channel::{EventParts, Side};
 use amqp_frame::{PROTOCOL_HEADER, Splitter, faults_are_judged, one_frame_at_start};
 use amqp_method::{Method, Properties};
 use amqp_model::{bounds, controls, fitting, octets, one_end, pieces};
-use amqp_outbox::{Chunks, ContentFrames, Outbox};
+use amqp_outbox::{BodyWriter, Chunks, ContentFrames, Outbox};
 use std::alloc::Global;
 
 /// What an end keeps.
@@ -524,6 +525,60 @@ impl Endpoint {
             Ok(frames) => {
                 self.outbox.pass(number);
                 Ok(frames)
+            }
+            Err(fault) => Err(fault),
+        }
+    }
+
+    /// A method and its content whose body of so many octets is still to come: it is refused, or its frames are put, and
+    /// written at once as far as the body is concerned. Nothing waits before.
+    pub(crate) fn begin_content(
+        &mut self,
+        number: u16,
+        method: &Method,
+        properties: &Properties,
+        size: u64,
+        octets: &mut Vec<u8>,
+    ) -> Result<BodyWriter, AskFault>
+        requires sound { EndpointIsSound self.old }
+        requires content { has_content (method_view method.now).kind ≡ true }
+        requires nothing { output_octets (endpoint_view self.old).output ≡ [] }
+        ensures accepted { OnOk result ((body : List ℕ) → length body ≡ size → AcceptsAsk (role_at self.old)
+            (config_view self.old.connection.settings)
+            (content_asked number (method_view method.now) (properties_view properties.now) body)
+            (endpoint_view self.old) (asked_by self.old.connection.settings (content_asked number
+            (method_view method.now) (properties_view properties.now) body) (endpoint_view self.old))) }
+        ensures written { OnOk result ((body : List ℕ) → length body ≡ size → endpoint_view self.new
+            ≡ all_wrote (asked_by self.old.connection.settings
+            (content_asked number (method_view method.now) (properties_view properties.now) body)
+            (endpoint_view self.old))) }
+        ensures begun { IfOk result (λ writer. (body : List ℕ) → length body ≡ size
+            → octets.new.items ++ still_to_write writer body
+            ≡ octets.old.items ++ output_octets (asked_by self.old.connection.settings (content_asked number
+            (method_view method.now) (properties_view properties.now) body) (endpoint_view self.old)).output) }
+        ensures left { IfOk result (λ writer. octets_left writer ≡ size) }
+        ensures refused { IfErr result (λ fault. (body : List ℕ) → RefusesAsk (role_at self.old)
+            (content_asked number (method_view method.now) (properties_view properties.now) body) fault
+            (endpoint_view self.old) (endpoint_view self.new)) }
+        ensures kept { OnErr result (octets.new.items ≡ octets.old.items) }
+        ensures stays { take (length octets.old.items) octets.new.items ≡ octets.old.items }
+        ensures sound { EndpointIsSound self.new }
+        ensures settings { self.new.connection.settings ≡ self.old.connection.settings }
+        ensures tally { tally_view self.new.tally ≡ tally_view self.old.tally }
+    {
+        pieces::unfinished_is_held();
+        fitting::agreed_is_within();
+        fitting::frames_fit();
+        bounds::ends_are_bounded();
+        octets::octets_follow();
+        one_end::ask_is_of_history();
+        match self
+            .connection
+            .begin_content(number, method, properties, size, octets)
+        {
+            Ok(writer) => {
+                self.outbox.pass(number);
+                Ok(writer)
             }
             Err(fault) => Err(fault),
         }

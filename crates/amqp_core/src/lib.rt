@@ -69,4 +69,6 @@ pub use crate::taken::{Taken, TakenRef};
 pub use crate::tellings::{Item, Telling};
 pub use crate::traced::Traced;
 pub use amqp_channel::{Agreed, ChannelState, CloseCode, Event, Reason, Side};
-pub use amqp_outbox::{Chunks, ContentFrames, HandOverFault, Pieces, SendQueue};
+pub use amqp_outbox::{
+    BodyFault, BodyWriter, Chunks, ContentFrames, HandOverFault, Pieces, SendQueue,
+};

@@ -3,7 +3,7 @@
 //! Nothing here is too long for a frame. A message was refused before where its method or its header doesn't fit the agreed
 //! size, of 32 bits, and each part of a body fits it; the other methods have a short string at most. So a frame that can't be
 //! staged is one for which there is no memory.
-ghost use Rattle.std.specs.Prelude.{◌≡◌, ◌<◌, [], ◌∷◌, length, map, None, IfOk, IfErr, OnOk, OnErr};
+ghost use Rattle.std.specs.Prelude.{◌≡◌, ◌<◌, ℕ, List, [], ◌∷◌, ◌++◌, length, take, map, None, IfOk, IfErr, OnOk, OnErr};
 ghost use Rattle.amqp_frame.specs.Splitting.{stream};
 ghost use Rattle.amqp_method.specs.Arguments.{call, short_string};
 ghost use Rattle.amqp_method.specs.Fitting.{AreOctets, FitsShort};
@@ -18,6 +18,7 @@ ghost use Rattle.amqp_model.specs.End.Controls.{heartbeat_frame};
 ghost use Rattle.amqp_model.specs.Wire.Methods.{ReadsBack};
 ghost use Rattle.amqp_model.specs.End.ReadingBack.{AskReadsBack};
 ghost use Rattle.amqp_outbox.specs.OutboxFrames.{header_frame, body_frame, HeaderReadsBack};
+ghost use Rattle.amqp_outbox.specs.BodyToCome.{octets_left, still_to_write};
 ghost use Rattle.amqp_outbox.specs.LentFrames.{content_left};
 ghost use Rattle.amqp_outbox.specs.OutboxView.{with_staged};
 ghost use Rattle.amqp_channel.specs.Events.EventView.{message_of};
@@ -31,7 +32,7 @@ use crate::faults::AskFault;
 use crate::heard::Cause;
 use crate::lent_message::LentMessage;
 use amqp_method::{Arg, Kind, Method, Properties};
-use amqp_outbox::{Chunks, ContentFrames, Outbox};
+use amqp_outbox::{BodyWriter, Chunks, ContentFrames, Outbox};
 use amqp_value::ShortStr;
 use std::alloc::Global;
 
@@ -266,6 +267,35 @@ pub(crate) fn lend_frames<'a>(
     let room = frame_max - AROUND_PAYLOAD as u32;
     match ContentFrames::new(channel, method, properties, body, room, octets) {
         Ok(frames) => Ok(frames),
+        Err(_) => Err(AskFault::OutOfMemory),
+    }
+}
+
+/// The frames of a method and of the header of its content are appended to octets. The body, of so many octets, is still
+/// to come, cut to the agreed frame size.
+pub(crate) fn begin_frames(
+    octets: &mut Vec<u8>,
+    channel: u16,
+    frame_max: u32,
+    method: &Method,
+    properties: &Properties,
+    size: u64,
+) -> Result<BodyWriter, AskFault>
+    requires { 8 < frame_max }
+    ensures ok { IfOk result (λ writer. (body : List ℕ) → length body ≡ size
+        → octets.new.items ++ still_to_write writer body ≡ octets.old.items ++ stream (map (payload_frame channel)
+        (message_payloads frame_max (message_of (letter_with (method_view method.now) (properties_view properties.now)
+        body))))) }
+    ensures left { IfOk result (λ writer. octets_left writer ≡ size) }
+    ensures reads_back { OnOk result ((body : List ℕ) → length body ≡ size → AskReadsBack
+        (content_asked channel (method_view method.now) (properties_view properties.now) body)) }
+    ensures err { IfErr result (λ fault. refusal_view fault ≡ None) }
+    ensures same { OnErr result (octets.new.items ≡ octets.old.items) }
+    ensures stays { take (length octets.old.items) octets.new.items ≡ octets.old.items }
+{
+    let room = frame_max - AROUND_PAYLOAD as u32;
+    match BodyWriter::begin(channel, method, properties, size, room, octets) {
+        Ok(writer) => Ok(writer),
         Err(_) => Err(AskFault::OutOfMemory),
     }
 }

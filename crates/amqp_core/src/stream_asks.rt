@@ -1,6 +1,6 @@
 //! What an application asks of an end whose events lend, and what such an end answers of itself: as
 //! [`End`](crate::End) does.
-ghost use Rattle.std.specs.Prelude.{[], OnOk, OnErr, ◌≡◌, ◌≤◌, ◌<◌, true, false, length, None, Some, Err, MatchOption};
+ghost use Rattle.std.specs.Prelude.{ℕ, List, [], IfOk, OnOk, OnErr, ◌≡◌, ◌≤◌, ◌<◌, true, false, length, take, None, Some, Err, MatchOption};
 ghost use Rattle.std.specs.Option.{option_copied};
 ghost use Rattle.amqp_method.specs.HeaderView.{properties_view};
 ghost use Rattle.amqp_method.specs.Kinds.{has_content};
@@ -16,6 +16,7 @@ ghost use Rattle.amqp_model.specs.End.Heard.{nothing_heard};
 ghost use Rattle.amqp_model.specs.History.Negotiation.{frame_limit};
 ghost use Rattle.amqp_model.specs.Output.Outputs.{output_octets, waiting_on};
 ghost use Rattle.amqp_channel.specs.Events.EventView.{agreed_there, message_of, state_view};
+ghost use Rattle.amqp_outbox.specs.BodyToCome.{octets_left};
 ghost use Rattle.amqp_outbox.specs.OutboxFaults.{begun};
 ghost use Rattle.amqp_core.specs.Asks.Outcomes.{content_asked};
 ghost use Rattle.amqp_core.specs.Asks.View.{ask_view, lent_view};
@@ -38,7 +39,7 @@ use crate::stream::StreamEnd;
 use amqp_channel::{Agreed, ChannelState};
 use amqp_method::{Kind, Message, Method, Properties};
 use amqp_model::{answers, arrangement, bounds, fitting, octets, one_end, replies, streaming};
-use amqp_outbox::{Chunks, ContentFrames, HandOverFault, SendQueue};
+use amqp_outbox::{BodyWriter, Chunks, ContentFrames, HandOverFault, SendQueue};
 use amqp_value::ShortStr;
 
 impl<R: Role> StreamEnd<R> {
@@ -46,7 +47,7 @@ impl<R: Role> StreamEnd<R> {
     ghost use Rattle.amqp_core.specs.Stream.Asks.{StreamAnswersLowest, StreamAnswersNumber, StreamAsked};
     ghost use Rattle.amqp_core.specs.Stream.Queries.{AgreedOfHistory, CameOfHistory, DueOfHistory, OutputIsInOrder};
     ghost use Rattle.amqp_core.specs.Stream.Queries.{PendingOfHistory, PhaseOfHistory, StateOfHistory};
-    ghost use Rattle.amqp_core.specs.Stream.LentAsks.{LendsContent};
+    ghost use Rattle.amqp_core.specs.Stream.LentAsks.{Begins, Lend, LendsContent};
     ghost use Rattle.amqp_core.specs.Stream.Writes.{HandsOver, StreamWrote};
     ghost use Rattle.amqp_core.specs.Stream.View.{config_at, counters_of, endpoint_of, heard_in, role_played};
     ghost use Rattle.amqp_core.specs.Stream.View.{settings_at};
@@ -377,7 +378,7 @@ impl<R: Role> StreamEnd<R> {
     ) -> Result<ContentFrames<'a>, LendFault>
         ensures lends { has_content (method_view method.now).kind ≡ true
             → LendsContent self.old (content_asked channel (method_view method.now) (properties_view properties.now)
-            body.now) result self.new }
+            body.now) Lend result self.new }
         ensures alone { has_content (method_view method.now).kind ≡ false
             → (result ≡ Err (lend_faults.Refused AskFault.NotSendable)) × (self.new ≡ self.old) }
     {
@@ -399,6 +400,62 @@ impl<R: Role> StreamEnd<R> {
             Ok(frames) => {
                 self.octets_written = frames.add_to(self.octets_written);
                 Ok(frames)
+            }
+            Err(fault) => Err(LendFault::Refused(fault)),
+        }
+    }
+
+    /// Begins a content whose body, of so many octets, is still to come: as [`StreamEnd::send_content`] sends it, whatever
+    /// its body will be. The frames of the method and of the header are appended to `octets`, and the frames of the body
+    /// by the writer that is answered, as its octets come:
+    ///
+    ///     let mut writer = end.begin_content(channel, &method, &properties, size, &mut octets)?;
+    ///     while writer.left() > 0 {
+    ///         writer.write(source.next_part()?, &mut octets)?;
+    ///         socket.write_all(&octets)?;
+    ///         octets.clear();
+    ///     }
+    ///
+    /// So a body of any length goes out through a small buffer. All its frames count as put and as written, so the caller
+    /// writes them to the last octet before anything else that the end puts; where the body or the stream stops half-way,
+    /// the connection is lost. Nothing is begun while octets of the output wait ([`LendFault::Waits`]).
+    pub fn begin_content(
+        &mut self,
+        channel: u16,
+        method: &Method,
+        properties: &Properties,
+        size: u64,
+        octets: &mut Vec<u8>,
+    ) -> Result<BodyWriter, LendFault>
+        ensures begins { has_content (method_view method.now).kind ≡ true → (body : List ℕ) → length body ≡ size
+            → LendsContent self.old (content_asked channel (method_view method.now) (properties_view properties.now)
+            body) (Begins octets.old.items octets.new.items body) result self.new }
+        ensures size { IfOk result (λ writer. octets_left writer ≡ size) }
+        ensures alone { has_content (method_view method.now).kind ≡ false
+            → (result ≡ Err (lend_faults.Refused AskFault.NotSendable)) × (self.new ≡ self.old) }
+        ensures kept { OnErr result (octets.new.items ≡ octets.old.items) }
+        ensures stays { take (length octets.old.items) octets.new.items ≡ octets.old.items }
+    {
+        if !method.has_content() {
+            return Err(LendFault::Refused(AskFault::NotSendable));
+        }
+        octets::octets_follow();
+        fitting::frames_fit();
+        one_end::ask_is_of_history();
+        streaming::alike_ends_ask_alike();
+        streaming::alike_endpoints_stay_alike();
+        if self.waiting_in_all() > 0 {
+            return Err(LendFault::Waits);
+        }
+        let before = octets.len();
+        match self
+            .inner
+            .begin_content(channel, method, properties, size, octets)
+        {
+            Ok(writer) => {
+                let ahead = (octets.len() - before) as u64;
+                self.octets_written = writer.add_to(self.octets_written.saturating_add(ahead));
+                Ok(writer)
             }
             Err(fault) => Err(LendFault::Refused(fault)),
         }

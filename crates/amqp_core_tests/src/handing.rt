@@ -8,7 +8,7 @@ use std::alloc::Global;
 use std::test::Fail;
 
 /// A client that lends, after the lines of a script.
-fn client_after(alloc: Global, lines: &str) -> Result<StreamEnd<Client>, Fail> {
+pub(crate) fn client_after(alloc: Global, lines: &str) -> Result<StreamEnd<Client>, Fail> {
     let mut pair = Pair::new(alloc, DEFAULT)?;
     let followed = pair.follow(alloc, AT_ONCE, "the way to a state", lines);
     let Pair { client, server } = pair;

@@ -9,6 +9,8 @@
 #[cfg(test)]
 mod asks;
 #[cfg(test)]
+mod beginning;
+#[cfg(test)]
 mod blames;
 #[cfg(test)]
 mod came;
