@@ -17,11 +17,8 @@ fn write_in_parts(
     part: usize,
     octets: &mut Vec<u8>,
 ) -> Result<(), Fail> {
-    let mut rest = body;
-    while !rest.is_empty() {
-        let (now, later) = rest.split_at(part.min(rest.len()));
+    for now in body.chunks(part.max(1)) {
         writer.write(now, octets)?;
-        rest = later;
     }
     Ok(())
 }
