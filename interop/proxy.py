@@ -260,6 +260,95 @@ def pipelined():
         connection.close()
 
 
+def content(size, properties=b"\0\0"):
+    """The payload of a content's header."""
+    return struct.pack(">HHQ", 60, 0, size) + properties
+
+
+def publish(key, exchange=b""):
+    return b"\0\x3c\0\x28\0\0" + short(exchange) + short(key) + b"\0"
+
+
+def large_content():
+    """A content that goes out as it comes, both ways."""
+    body = bytes(range(250)) * 400_000
+    with Proxy() as proxy:
+        connection = proxy.connect(blocked_connection_timeout=300)
+        channel = connection.channel()
+        channel.confirm_delivery()
+        queue = channel.queue_declare("", exclusive=True).method.queue
+        channel.basic_publish("", queue, body)
+        says("proxy: a content of 100 MB", True, channel.basic_get(queue, auto_ack=True)[2] == body)
+        most = proxy.memory()
+        says(f"proxy: of a content of 100 MB it held {most} MB at most", True, most < 16)
+        connection.close()
+
+
+def contents_in_turn():
+    """Two contents of one client whose frames come in turn: one goes out as it comes, the other is gathered."""
+    bodies = {1: os.urandom(900_000), 2: os.urandom(600_000)}
+    with Proxy() as proxy, socket.create_connection(("127.0.0.1", proxy.port), timeout=30) as client:
+        connection = proxy.connect()
+        channel = connection.channel()
+        queues = {number: channel.queue_declare("", exclusive=True).method.queue for number in bodies}
+        log_in(client)
+        for number, body in bodies.items():
+            client.sendall(frame(1, number, b"\0\x14\0\x0a\0") + frame(1, number, publish(queues[number].encode())))
+            client.sendall(frame(2, number, content(len(body))))
+        for start in range(0, 900_000, 50_000):
+            for number, body in bodies.items():
+                if start < len(body):
+                    client.sendall(frame(3, number, body[start : start + 50_000]))
+        time.sleep(2)
+        found = {number: channel.basic_get(queue, auto_ack=True)[2] for number, queue in queues.items()}
+        says("proxy: two contents whose frames come in turn", True, found == bodies)
+        connection.close()
+
+
+def half_a_content():
+    """A client that is gone in the middle of a content, which nobody gets."""
+    with Proxy() as proxy:
+        connection = proxy.connect()
+        channel = connection.channel()
+        queue = channel.queue_declare("", exclusive=True).method.queue
+        with socket.create_connection(("127.0.0.1", proxy.port), timeout=30) as client:
+            log_in(client)
+            client.sendall(frame(1, 1, b"\0\x14\0\x0a\0") + frame(1, 1, publish(queue.encode())))
+            client.sendall(frame(2, 1, content(1_000_000)) + frame(3, 1, bytes(100_000)))
+            time.sleep(1)
+        time.sleep(1)
+        channel.basic_publish("", queue, b"whole")
+        says("proxy: nothing of half a content", b"whole", channel.basic_get(queue, auto_ack=True)[2])
+        says("proxy: nothing after it", None, channel.basic_get(queue, auto_ack=True)[2])
+        connection.close()
+
+
+def closed_in_the_middle():
+    """A channel that the broker closes while a content goes to it: other channels go on."""
+    with Proxy() as proxy, socket.create_connection(("127.0.0.1", proxy.port), timeout=30) as client:
+        connection = proxy.connect()
+        channel = connection.channel()
+        queue = channel.queue_declare("", exclusive=True).method.queue
+        log_in(client)
+        client.sendall(frame(1, 1, b"\0\x14\0\x0a\0") + frame(1, 2, b"\0\x14\0\x0a\0"))
+        client.sendall(frame(1, 1, publish(b"", b"nowhere")) + frame(2, 1, content(4)) + frame(3, 1, b"lost"))
+        client.sendall(frame(1, 1, publish(queue.encode())))
+        client.sendall(frame(2, 1, content(1_000_000)) + frame(3, 1, bytes(100_000)))
+        until(client, b"\0\x3c\0\x28")
+        client.sendall(frame(1, 1, b"\0\x14\0\x29"))
+        declare = b"\0\x32\0\x0a\0\0" + short(b"p.middle") + b"\0\0\0\0\0"
+        client.sendall(frame(1, 2, declare))
+        until(client, short(b"p.middle") + bytes(8))
+        time.sleep(1)
+        says("proxy: nothing of a content whose channel was closed", None, channel.basic_get(queue, auto_ack=True)[2])
+        channel.queue_delete("p.middle")
+        client.sendall(frame(1, 1, b"\0\x14\0\x0a\0") + frame(1, 1, publish(queue.encode())))
+        client.sendall(frame(2, 1, content(5)) + frame(3, 1, b"again"))
+        time.sleep(1)
+        says("proxy: its number is used again", b"again", channel.basic_get(queue, auto_ack=True)[2])
+        connection.close()
+
+
 def flow():
     """A client that takes no contents for a while, which RabbitMQ doesn't have."""
     if IS_RABBITMQ:
@@ -333,6 +422,10 @@ PARTS = {
     "frames": small_frames,
     "numbers": channels,
     "pipelined": pipelined,
+    "large": large_content,
+    "in-turn": contents_in_turn,
+    "half": half_a_content,
+    "closed": closed_in_the_middle,
     "flow": flow,
     "logins": refused_logins,
     "gone": broker_that_hangs_up,

@@ -1,13 +1,18 @@
-//! Contents in parts: gathered as they come, and sent once they are whole, since an end sends none in parts.
-ghost use Rattle.std.specs.Prelude.{◌≡◌, None, IfOk, OnErr, OnOk};
+//! Contents in parts: small ones are gathered as they come, and sent once they are whole.
+ghost use Rattle.std.specs.Prelude.{◌≡◌, ◌≢◌, None, true, IfOk, OnErr, OnOk};
+ghost use Rattle.amqp_core.specs.Faults.Numbers.{refusal_view};
 ghost use Rattle.amqp_method.specs.HeaderRefView.{lent_header};
 ghost use Rattle.amqp_method.specs.MethodRefView.{lent_call};
 ghost use Rattle.amqp_core.specs.Stream.Asks.{StreamAsked};
 ghost use Rattle.example_loop.specs.Gathering.{begun, content_there, gathered, left, sent_on, whole_of, with_part, with_properties};
 
+use crate::streaming::Streaming;
 use amqp_core::{AskFault, Chunks, Role, StreamEnd};
 use amqp_method::{Carrier, Header, HeaderRef, MethodRef};
 use std::alloc::Global;
+
+/// A longer body is passed on as it comes.
+const LARGE: u64 = 65_536;
 
 /// A content that is whole. Each part of its body is let go as it is sent, so that no body is in memory twice.
 #[derive(Drop)]
@@ -45,6 +50,11 @@ impl Coming {
         ensures { gathered result ≡ None }
     {
         Coming { content: None }
+    }
+
+    /// About how many octets it takes so far.
+    pub fn octets(&self) -> usize {
+        self.content.as_ref().map_or(0, Content::octets)
     }
 
     /// A method begins a content.
@@ -93,6 +103,35 @@ impl Coming {
         Ok(self.finish(whole))
     }
 
+    /// Begins to send what is there of a large content, which goes on as its body comes, and is no longer kept here. What
+    /// can't begin yet is kept, and so is a small content until it is whole.
+    pub fn pass_on<R: Role>(
+        &mut self,
+        alloc: Global,
+        end: &mut Streaming<R>,
+        channel: u16,
+    ) -> anyhow::Result<()> {
+        let Some(content) = &mut self.content else {
+            return Ok(());
+        };
+        let Header {
+            body_size,
+            properties,
+        } = &content.header;
+        if *body_size <= LARGE {
+            return Ok(());
+        }
+        let method = content.method.method();
+        let Ok(()) = end.begin(channel, method, properties, *body_size) else {
+            return Ok(());
+        };
+        let mut body = Vec::new(alloc);
+        content.body.append_to(&mut body)?;
+        end.pass(&body)?;
+        self.content = None;
+        Ok(())
+    }
+
     fn read_header(&mut self, alloc: Global, header: HeaderRef<'_>) -> anyhow::Result<()>
         ensures { OnOk result (gathered self.new ≡ with_properties (lent_header header.entry).properties
             (gathered self.old)) }
@@ -120,5 +159,16 @@ impl Coming {
             return None;
         }
         self.content.take()
+    }
+}
+
+/// Whether an ask that is refused so only has to wait.
+pub fn may_go_later(fault: AskFault) -> bool
+    ensures { result ≡ true → refusal_view fault ≢ None }
+{
+    match fault {
+        AskFault::ReplyPending | AskFault::Paused | AskFault::FlowPending => true,
+        AskFault::NotOpen | AskFault::NotRunning => true,
+        _ => false,
     }
 }

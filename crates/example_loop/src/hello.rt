@@ -9,6 +9,9 @@ const MAX_BODY: u64 = 134_217_728;
 /// The heartbeat that is proposed, in seconds.
 const HEARTBEAT: u16 = 60;
 
+/// What clients and brokers look for before they use a program that passes on what they say.
+pub const ABILITIES: &str = "publisher_confirms basic.nack authentication_failure_close";
+
 /// The word that stands after another on the command line, if that is there.
 pub fn word_after<'a>(words: &'a [String], name: &str) -> Option<&'a str> {
     let place = words.iter().position(|word| word.as_str() == name)?;

@@ -9,10 +9,12 @@ mod link;
 mod pulse;
 mod running;
 mod sockets;
+mod streaming;
 
-pub use crate::contents::{Coming, Content};
+pub use crate::contents::{Coming, Content, may_go_later};
 pub use crate::ends::AnyEnd;
-pub use crate::hello::{client_end, server_end, word_after};
-pub use crate::link::{FULL, Heard, Link};
+pub use crate::hello::{ABILITIES, client_end, server_end, word_after};
+pub use crate::link::{FULL, Heard, Link, MOST};
 pub use crate::running::{Program, serve};
 pub use crate::sockets::Connect;
+pub use crate::streaming::Streaming;

@@ -3,7 +3,8 @@ ghost use Rattle.std.specs.Prelude.{◌≡◌, ◌≤◌, IfSome, length};
 
 use crate::ends::AnyEnd;
 use crate::pulse::Pulse;
-use amqp_core::{Cause, End, Event, EventRef, Phase, Role, StreamEnd};
+use crate::streaming::Streaming;
+use amqp_core::{Cause, End, Event, EventRef, Phase, Role};
 use amqp_method::Kind;
 use mio::event;
 use mio::net::TcpStream;
@@ -11,6 +12,9 @@ use std::io::{ErrorKind, Read};
 
 /// Where more octets wait to be written, no more are to be made: a program doesn't read who asks for them.
 pub const FULL: usize = 1_048_576;
+
+/// Where more wait or are gathered all the same, a program gives a connection up.
+pub const MOST: usize = 268_435_456;
 
 #[derive(Drop)]
 pub struct Link<E: AnyEnd> {
@@ -99,6 +103,14 @@ impl<E: AnyEnd> Link<E> {
         }
     }
 
+    /// Writes once what waits, and what half a second owes if it passed.
+    pub fn settle(&mut self, ticks: bool) {
+        if ticks {
+            self.tick();
+        }
+        self.write();
+    }
+
     /// Half a second passed: puts a heartbeat if one is due, and gives up a peer that fell silent though it is read.
     /// In the handshake and in a close a peer may be silent for half a minute.
     pub fn tick(&mut self) {
@@ -146,7 +158,18 @@ pub struct Heard<'a> {
     pub about: Option<Kind>,
 }
 
-impl<R: Role> Link<StreamEnd<R>> {
+impl Heard<'_> {
+    /// Prints a line for it, if it isn't of the content that follows a method.
+    pub fn print(&self, rt: &impl Print, is_client: bool) {
+        if matches!(self.event, EventRef::Heads(..) | EventRef::Part(..)) {
+            return;
+        }
+        let name = if is_client { "broker" } else { "client" };
+        drop(println!(rt; "{name} {}", self.event));
+    }
+}
+
+impl<R: Role> Link<Streaming<R>> {
     /// Takes octets up to the end of a frame, and answers how many, and what the frame says, if it is whole. None: all
     /// octets are taken, or the end takes no more.
     pub fn hear_ref<'a>(&'a mut self, octets: &'a [u8]) -> Option<(usize, Option<Heard<'a>>)>
@@ -155,12 +178,13 @@ impl<R: Role> Link<StreamEnd<R>> {
         if octets.is_empty() || self.is_over() {
             return None;
         }
-        let Ok(step) = self.end.advance(octets) else {
+        let Ok(step) = self.end.inner.advance(octets) else {
             return None;
         };
         let taken = step.octets;
-        let about = self.end.closed_for().and_then(Cause::kind);
-        match self.end.event(step) {
+        let about = self.end.inner.closed_for().and_then(Cause::kind);
+        self.end.cut_off();
+        match self.end.inner.event(step) {
             Some(event) => {
                 let number = number_of(event);
                 let heard = Heard {

@@ -26,7 +26,6 @@ pub enum Asking {
 pub type Asked = anyhow::Result<Option<Asking>>;
 
 impl Asking {
-    /// Whether it closes a channel or the connection.
     pub fn closes(&self) -> bool
         ensures { result ≡ closes (asking_view self.now) }
     {
@@ -89,10 +88,7 @@ pub fn asked_by(alloc: Global, coming: &mut Coming, partner: u16, heard: &Heard<
         }
         EventRef::Blocked(reason) => Ask::Blocked(ShortStr::new(alloc, reason)?),
         EventRef::Unblocked => Ask::Unblocked,
-        EventRef::AnswerAsked | EventRef::LoginAsked | EventRef::OpenAsked => return Ok(None),
-        EventRef::Negotiated(_) | EventRef::Opened(_) | EventRef::FlowOk(_, _) => return Ok(None),
-        EventRef::ChannelClosed(_, None) | EventRef::ConnectionClosed(None) => return Ok(None),
-        EventRef::Quiet => return Ok(None),
+        _ => return Ok(None),
     };
     Ok(Some(Asking::Plain(ask, heard.about)))
 }

@@ -1,12 +1,11 @@
 //! A channel of one side, and what waits to be asked on it.
-ghost use Rattle.std.specs.Prelude.{◌≡◌, ◌≢◌, ◌+◌, ◌++◌, ◌∷◌, [], Some, None, length, true, false, IfOk, OnOk};
-ghost use Rattle.amqp_core.specs.Faults.Numbers.{refusal_view};
+ghost use Rattle.std.specs.Prelude.{◌≡◌, ◌+◌, ◌++◌, ◌∷◌, [], Some, None, length, true, false, IfOk, OnOk};
 ghost use Rattle.example_proxy.specs.Advancing.{Advances, Rests, partner_after};
 ghost use Rattle.example_proxy.specs.AskingView.{asking_view};
 
 use crate::asking::Asking;
 use amqp_core::{AskFault, Role, StreamEnd};
-use example_loop::Coming;
+use example_loop::{Coming, may_go_later};
 use std::alloc::{AllocError, Global};
 use std::collections::VecDeque;
 
@@ -48,9 +47,10 @@ impl Channel {
         Ok(())
     }
 
-    /// About how many octets wait: bodies, and 256 for what else an ask has.
+    /// About how many octets wait or are gathered: bodies, and 256 for what else an ask has.
     pub fn octets(&self) -> usize {
-        let mut octets = self.waiting.len().saturating_mul(256);
+        let asks = self.waiting.len().saturating_mul(256);
+        let mut octets = asks.saturating_add(self.coming.octets());
         for asking in &self.waiting {
             if let Asking::Content(_, content) = asking {
                 octets = octets.saturating_add(content.octets());
@@ -87,16 +87,5 @@ impl Channel {
         } else {
             Err(fault)
         }
-    }
-}
-
-/// Whether an ask that is refused so only has to wait.
-fn may_go_later(fault: AskFault) -> bool
-    ensures { result ≡ true → refusal_view fault ≢ None }
-{
-    match fault {
-        AskFault::ReplyPending | AskFault::Paused | AskFault::FlowPending => true,
-        AskFault::NotOpen | AskFault::NotRunning => true,
-        _ => false,
     }
 }

@@ -7,7 +7,7 @@ mod peer;
 
 use crate::peer::{Done, Peer};
 use amqp_core::{Client, Phase, Server};
-use example_loop::{Connect, Link, Program, client_end, serve, server_end, word_after};
+use example_loop::{ABILITIES, Connect, MOST, Program, client_end, serve, server_end, word_after};
 use mio::event::Event;
 use mio::net::TcpStream;
 use std::alloc::Global;
@@ -20,9 +20,6 @@ const HELP: &str = "\
 Usage: example_proxy LISTEN BROKER [--log] [--user USER] [--password PASSWORD]
 
 Takes clients of AMQP 0-9-1 at the address LISTEN, as 127.0.0.1:5670, and connects to the broker at BROKER for each.";
-
-/// What clients and brokers look for before they use it.
-const ABILITIES: &str = "publisher_confirms basic.nack authentication_failure_close";
 
 fn main(rt: HostRuntime) -> anyhow::Result<ExitCode> {
     let alloc = rt.alloc();
@@ -61,17 +58,14 @@ impl Relay {
 
     /// Reads each side once, passes on what came, and writes what the sockets take. What can't be passed on ends both.
     fn turn(&mut self, rt: &impl Print, ticks: bool, room: &mut [u8]) {
-        if self.pass_on(rt, room).is_err() {
+        let waits = self.client.octets().saturating_add(self.broker.octets());
+        if self.pass_on(rt, room).is_err() || waits > MOST {
             self.client.fail();
             self.broker.fail();
         }
         let (client, broker) = (&mut self.client, &mut self.broker);
-        if ticks {
-            client.link.tick();
-            broker.link.tick();
-        }
-        client.link.write();
-        broker.link.write();
+        client.link.settle(ticks);
+        broker.link.settle(ticks);
         client.link.is_held = broker.is_full();
         broker.link.is_held = client.is_full();
     }
@@ -81,7 +75,7 @@ impl Relay {
         let (client, broker) = (&mut self.client, &mut self.broker);
         client.pull(rt, broker, room)?;
         broker.pull(rt, client, room)?;
-        client.answer(broker.link.end.phase() == Phase::Running);
+        client.answer(broker.link.end.inner.phase() == Phase::Running);
         client.advance(true)?;
         broker.advance(false)
     }
@@ -92,7 +86,6 @@ impl Relay {
 struct Relays<'a> {
     alloc: Global,
     broker: SocketAddr,
-    /// Who logs in there.
     user: &'a str,
     password: &'a str,
     log: bool,
@@ -105,18 +98,17 @@ impl Program for Relays<'_> {
     }
 
     /// A client is let in once the broker has let in the proxy.
-    fn add(&mut self, to: &impl Connect, number: usize, stream: TcpStream) -> anyhow::Result<()> {
+    fn add(&mut self, to: &impl Connect, number: usize, stream: TcpStream) -> Done {
         let alloc = self.alloc;
-        let client = server_end(alloc, "example_proxy", ABILITIES)?;
+        let client = server_end(alloc, "example_proxy", ABILITIES)?.into_stream();
+        let client = Peer::new(alloc, stream, client, self.log)?;
         let broker = client_end(alloc, "example_proxy", ABILITIES, self.user, self.password)?;
-        let client = Peer::new(alloc, Link::new(stream, client.into_stream()), self.log)?;
-        let broker = Link::new(to.connect(number, self.broker)?, broker.into_stream());
-        let broker = Peer::new(alloc, broker, self.log)?;
+        let stream = to.connect(number, self.broker)?;
+        let broker = Peer::new(alloc, stream, broker.into_stream(), self.log)?;
         self.relays.insert(number, Relay { client, broker })?;
         Ok(())
     }
 
-    /// A read or a write of the socket that isn't ready moves nothing.
     fn note(&mut self, number: usize, event: &Event) {
         if let Some(relay) = self.relays.get_mut(&number) {
             relay.client.link.note(event);
@@ -124,7 +116,7 @@ impl Program for Relays<'_> {
         }
     }
 
-    fn turn(&mut self, rt: &impl Print, ticks: bool, room: &mut [u8]) -> anyhow::Result<()> {
+    fn turn(&mut self, rt: &impl Print, ticks: bool, room: &mut [u8]) -> Done {
         for relay in self.relays.values_mut() {
             if ticks || relay.has_work() {
                 relay.turn(rt, ticks, room);

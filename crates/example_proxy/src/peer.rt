@@ -6,40 +6,49 @@ use crate::channel::Channel;
 use amqp_core::{Ask, EventRef, Role, StreamEnd};
 use amqp_method::reply;
 use amqp_value::ShortStr;
-use example_loop::{FULL, Heard, Link};
+use anyhow::Result;
+use example_loop::{Coming, FULL, Heard, Link, Streaming};
+use mio::net::TcpStream;
 use std::alloc::Global;
 use std::collections::BTreeMap;
 
-pub type Done = anyhow::Result<()>;
+pub type Done = Result<()>;
 
 #[derive(Drop)]
 pub struct Peer<R: Role> {
     alloc: Global,
-    pub link: Link<StreamEnd<R>>,
+    pub link: Link<Streaming<R>>,
     /// By their numbers, with number 0, which stands for the connection.
     channels: BTreeMap<u16, Channel>,
-    /// What it says is printed.
     log: bool,
 }
 
 impl<R: Role> Peer<R> {
-    pub fn new(alloc: Global, link: Link<StreamEnd<R>>, log: bool) -> anyhow::Result<Peer<R>> {
+    pub fn new(alloc: Global, stream: TcpStream, end: StreamEnd<R>, log: bool) -> Result<Peer<R>> {
         let mut channels = BTreeMap::new(alloc);
         channels.insert(0, Channel::new(alloc, 0))?;
         Ok(Peer {
             alloc,
-            link,
+            link: Link::new(stream, Streaming::new(alloc, end)),
             channels,
             log,
         })
     }
 
-    /// Whether so much waits for it that the other side is not read.
-    pub fn is_full(&self) -> bool {
-        let mut octets = self.link.end.waiting_in_all();
+    /// About how many octets wait for it, or are gathered of what it says.
+    pub fn octets(&self) -> usize {
+        let end = &self.link.end;
+        let mut octets = end.inner.waiting_in_all().saturating_add(end.ahead().len());
         for channel in self.channels.values() {
             octets = octets.saturating_add(channel.octets());
         }
+        octets
+    }
+
+    /// Whether so much waits for it that the other side is not read, which has the rest of a content that goes out.
+    pub fn is_full(&self) -> bool {
+        let (ahead, all) = (self.link.end.ahead().len(), self.octets());
+        let octets = if self.link.end.is_busy() { ahead } else { all };
         octets > FULL && !self.link.is_over()
     }
 
@@ -65,16 +74,15 @@ impl<R: Role> Peer<R> {
         rt: &impl Print,
         other: &mut Peer<P>,
         octets: &'a [u8],
-    ) -> anyhow::Result<Option<usize>>
+    ) -> Result<Option<usize>>
         ensures { IfOk result (λ taken. IfSome taken (λ taken. taken ≤ length octets.now)) }
     {
         let Some((taken, heard)) = self.link.hear_ref(octets) else {
             return Ok(None);
         };
         if let Some(heard) = heard {
-            if self.log && !matches!(heard.event, EventRef::Heads(..) | EventRef::Part(..)) {
-                let name = if R::is_client() { "broker" } else { "client" };
-                drop(println!(rt; "{name} {}", heard.event));
+            if self.log {
+                heard.print(rt, R::is_client());
             }
             other.hear_of(&mut self.channels, &heard)?;
         }
@@ -83,17 +91,15 @@ impl<R: Role> Peer<R> {
 
     /// What is said on a channel of the other side is passed on to this. One that opens there gets a partner here.
     fn hear_of(&mut self, channels: &mut BTreeMap<u16, Channel>, heard: &Heard<'_>) -> Done {
-        let alloc = self.alloc;
         if let Some(channel) = channels.get_mut(&heard.number) {
-            if let Some(partner) = channel.partner
-                && let Some(asking) = asked_by(alloc, &mut channel.coming, partner, heard)?
-            {
-                self.push(partner, asking)?;
+            if let Some(partner) = channel.partner {
+                self.pass_on(&mut channel.coming, partner, heard)?;
             }
         } else if let EventRef::Opened(number) = heard.event {
-            let partner = self.link.end.open_channel()?;
-            channels.insert(number, Channel::new(alloc, partner))?;
-            self.channels.insert(partner, Channel::new(alloc, number))?;
+            let partner = self.link.end.inner.open_channel()?;
+            channels.insert(number, Channel::new(self.alloc, partner))?;
+            self.channels
+                .insert(partner, Channel::new(self.alloc, number))?;
         }
         if let EventRef::ChannelClosed(number, _) | EventRef::Discarded(number) = heard.event {
             channels.remove(&number);
@@ -101,8 +107,25 @@ impl<R: Role> Peer<R> {
         Ok(())
     }
 
-    /// Asks something on a channel, after what waits there. After a close nothing is.
+    /// Octets of a content that is under way go out. What else is said is asked for, or begins a content.
+    fn pass_on(&mut self, coming: &mut Coming, number: u16, heard: &Heard<'_>) -> Done {
+        if let EventRef::Part(_, part, _) = heard.event
+            && self.link.end.is_on(number)
+        {
+            self.link.end.pass(part)?;
+        } else if let Some(asking) = asked_by(self.alloc, coming, number, heard)? {
+            self.push(number, asking)?;
+        } else if let Some(channel) = self.channels.get(&number)
+            && channel.waiting.is_empty()
+        {
+            coming.pass_on(self.alloc, &mut self.link.end, number)?;
+        }
+        Ok(())
+    }
+
+    /// Asks something on a channel, after what waits there. After a close nothing is; amid a content it ends the link.
     fn push(&mut self, number: u16, asking: Asking) -> Done {
+        self.link.is_gone |= number == 0 && asking.closes() && self.link.end.is_busy();
         if let Some(channel) = self.channels.get_mut(&number)
             && channel.partner.is_some()
             && !self.link.is_over()
@@ -117,7 +140,7 @@ impl<R: Role> Peer<R> {
         let mut is_left = false;
         for (number, channel) in self.channels.iter_mut().rev() {
             if *number > 0 || at_once || !is_left {
-                channel.advance(&mut self.link.end)?;
+                channel.advance(&mut self.link.end.inner)?;
                 is_left |= !channel.waiting.is_empty();
             }
         }
@@ -141,9 +164,9 @@ impl<R: Role> Peer<R> {
     pub fn answer(&mut self, lets_in: bool) {
         let first = self.channels.get(&0).and_then(|all| all.waiting.front());
         if lets_in {
-            drop(self.link.end.admit());
+            drop(self.link.end.inner.admit());
         } else if let Some(Asking::Plain(Ask::Close(code, text), _)) = first {
-            drop(self.link.end.refuse(*code, text));
+            drop(self.link.end.inner.refuse(*code, text));
         }
     }
 }
