@@ -116,7 +116,7 @@ def slow_reader():
         sends.join()
         says("proxy: 100 MB to a slow reader", True, seen == count * [body])
         most = proxy.memory()
-        says(f"proxy: it held {held} MB before they were read, and {most} at most", True, most < 32)
+        says(f"proxy: it held {held} MB before they were read, and {most} at most", True, most < 16)
         connection.channel().queue_delete(queue)
         connection.close()
 
@@ -150,7 +150,7 @@ def paced_reader():
         most = proxy.memory()
         what = f"proxy: {MEGABYTES} MB to a reader of 1 MB a second"
         says(f"{what}: it took {seconds:.1f} seconds", True, bodies == MEGABYTES * body and seconds > 0.99 * MEGABYTES)
-        says(f"{what}: it held {most} MB at most", True, most < 32)
+        says(f"{what}: it held {most} MB at most", True, most < 16)
         connection = proxy.connect()
         connection.channel().queue_delete(queue)
         connection.close()
