@@ -1,7 +1,7 @@
 //! Contents that begin before their bodies are there.
 use crate::handing::client_after;
 use crate::messages::message;
-use crate::octets::{counted_octets, octets_of};
+use crate::octets::octets_of;
 use amqp_core::{AskFault, BodyFault, BodyWriter, Client, LendFault, StreamEnd};
 use amqp_method::{Message, Method, Properties};
 use std::alloc::Global;
@@ -94,48 +94,78 @@ fn begun_contents_are_those_that_are_sent(rt: HostRuntime) -> Result<(), Fail> {
     assertion
 }
 
-/// Why a content of ten octets doesn't begin.
+/// Begins a content of ten octets.
+fn begin(
+    client: &mut StreamEnd<Client>,
+    channel: u16,
+    method: &Method,
+    octets: &mut Vec<u8>,
+) -> Result<BodyWriter, LendFault> {
+    client.begin_content(channel, method, &Properties::default(), 10, octets)
+}
+
+/// Why one doesn't begin.
 fn fault(
     client: &mut StreamEnd<Client>,
     channel: u16,
     method: &Method,
     octets: &mut Vec<u8>,
 ) -> Option<LendFault> {
-    match client.begin_content(channel, method, &Properties::default(), 10, octets) {
+    match begin(client, channel, method, octets) {
         Ok(_) => None,
         Err(fault) => Some(fault),
     }
 }
 
-/// What is refused leaves the octets as they are: an open that waits to be written, a channel that isn't open, a method
-/// without a content, and a part that is longer than the body.
-fn assert_refused(
+/// None begins while an open waits to be written, on a channel that isn't open, or after a method without a content.
+fn assert_not_begun(
     rt: &impl Abort,
-    alloc: Global,
     client: &mut StreamEnd<Client>,
     publish: &Method,
     select: &Method,
+    octets: &mut Vec<u8>,
 ) -> Result<(), Fail> {
-    let mut octets = counted_octets(alloc, 3)?;
     let third = client.open_channel()?;
-    assert!(rt; fault(client, 1, publish, &mut octets) == Some(LendFault::Waits));
+    assert!(rt; fault(client, 1, publish, octets) == Some(LendFault::Waits));
     let all = client.waiting_in_all();
     client.wrote(all);
     let refused = Some(LendFault::Refused(AskFault::NotOpen));
-    assert!(rt; fault(client, third, publish, &mut octets) == refused);
+    assert!(rt; fault(client, third, publish, octets) == refused);
     let refused = Some(LendFault::Refused(AskFault::NotSendable));
-    assert!(rt; fault(client, 1, select, &mut octets) == refused);
-    assert!(rt; octets.len() == 3);
-    let properties = Properties::default();
-    let mut writer = client.begin_content(1, publish, &properties, 10, &mut octets)?;
-    writer.write(b"123456", &mut octets)?;
+    assert!(rt; fault(client, 1, select, octets) == refused);
+    Ok(())
+}
+
+/// Of a body of ten octets six come, then five, which are too many, and then four.
+fn assert_part_refused(
+    rt: &impl Abort,
+    client: &mut StreamEnd<Client>,
+    publish: &Method,
+    octets: &mut Vec<u8>,
+) -> Result<(), Fail> {
+    let mut writer = begin(client, 1, publish, octets)?;
+    writer.write(b"123456", octets)?;
     let before = octets.len();
-    assert!(rt; writer.write(b"78901", &mut octets) == Err(BodyFault::TooLong));
+    assert!(rt; writer.write(b"78901", octets) == Err(BodyFault::TooLong));
     assert!(rt; octets.len() == before);
     assert!(rt; writer.left() == 4);
-    writer.write(b"7890", &mut octets)?;
+    writer.write(b"7890", octets)?;
     assert!(rt; octets.ends_with(b"\x03\x00\x01\x00\x00\x00\x0a1234567890\xce"));
-    assert!(rt; octets.starts_with(counted_octets(alloc, 3)?.as_slice()));
+    Ok(())
+}
+
+/// What is refused leaves the octets that are there as they are.
+fn assert_refused(
+    rt: &impl Abort,
+    client: &mut StreamEnd<Client>,
+    publish: &Method,
+    select: &Method,
+    octets: &mut Vec<u8>,
+) -> Result<(), Fail> {
+    assert_not_begun(rt, client, publish, select, octets)?;
+    assert!(rt; octets.as_slice() == b"abc".as_slice());
+    assert_part_refused(rt, client, publish, octets)?;
+    assert!(rt; octets.starts_with(b"abc"));
     Ok(())
 }
 
@@ -144,8 +174,15 @@ fn what_is_refused_is_not_begun(rt: HostRuntime) -> Result<(), Fail> {
     let alloc = rt.alloc();
     let publish = message(alloc, &octets_of(alloc, &["basic.publish"])?, b"", 0)?;
     let select = message(alloc, &octets_of(alloc, &["tx.select"])?, b"", 0)?;
+    let mut octets = Vec::from_slice(alloc, b"abc")?;
     let mut client = client_after(alloc, "both open 2")?;
-    let assertion = assert_refused(&rt, alloc, &mut client, publish.method(), select.method());
+    let assertion = assert_refused(
+        &rt,
+        &mut client,
+        publish.method(),
+        select.method(),
+        &mut octets,
+    );
     drop(client);
     drop(publish);
     drop(select);
