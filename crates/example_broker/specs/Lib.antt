@@ -1,4 +1,1 @@
-pub mod Credits
 pub mod Standing
-pub mod Topic
-pub mod TopicRows

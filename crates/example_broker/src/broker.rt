@@ -1,18 +1,17 @@
 //! All that the broker holds, and what it does with what the ends of its connections tell.
 use crate::channel::Channel;
 use crate::connection::Connection;
-use crate::exchanges::Exchanges;
-use crate::fault::{Answer, Done, Fault, refused};
-use crate::messages::{Content, Share};
+use crate::exchanges::Exchange;
+use crate::fault::{Answer, Done, Fault, Result, refused};
 use crate::queues::{Place, QueueId, Queues};
-use amqp_core::{AskFault, Event};
+use amqp_core::{AskFault, End, Event, Server};
 use amqp_method::{Kind, Message, reply};
-use amqp_typed::basic::{AnyMethod as Basic, Publish};
-use amqp_typed::exchange::AnyMethod as Exchange;
-use amqp_typed::queue::AnyMethod as Queue;
-use amqp_typed::{AnyMethod, Typed};
+use amqp_typed::basic::AnyMethod as Basic;
+use amqp_typed::exchange::AnyMethod as Exchanging;
+use amqp_typed::{AnyMethod, queue};
 use amqp_value::ShortStr;
 use example_loop::{Connect, Program};
+use example_store::{Content, Share};
 use mio::net::TcpStream;
 use std::alloc::{AllocError, Global};
 use std::cell::Cell;
@@ -22,9 +21,6 @@ use std::rc::Rc;
 /// Where messages hold more octets, those who publish have to wait. No connection may have more under way either.
 pub const BOUND: usize = 268_435_456;
 
-/// A table takes about so many times the memory that it takes in a header.
-const SPREAD: u64 = 16;
-
 #[derive(Drop)]
 pub struct Broker {
     pub alloc: Global,
@@ -32,10 +28,9 @@ pub struct Broker {
     /// How many octets all messages hold.
     held: Rc<Cell<usize>>,
     pub connections: BTreeMap<usize, Connection>,
-    pub exchanges: Exchanges,
+    pub exchanges: BTreeMap<Vec<u8>, Exchange>,
     pub queues: Queues,
     pub names: BTreeMap<Vec<u8>, QueueId>,
-    /// the last number that was given to a queue or a consumer
     last_id: u64,
     /// the number from which queues are asked first for what they send
     first: QueueId,
@@ -43,7 +38,7 @@ pub struct Broker {
 
 impl Broker {
     /// A broker with these users: a line `name:password` for each.
-    pub fn new(alloc: Global, users: String) -> Result<Broker, Fault> {
+    pub fn new(alloc: Global, users: String) -> Result<Broker> {
         let mut broker = Broker {
             alloc,
             users: Rc::new(alloc, users)?,
@@ -59,32 +54,34 @@ impl Broker {
         Ok(broker)
     }
 
-    /// A number for a queue or a consumer.
-    pub fn next_id(&mut self) -> Result<u64, AllocError> {
+    pub fn next_id(&mut self) -> Result<u64> {
         self.last_id = self.last_id.checked_add(1).ok_or(AllocError)?;
         Ok(self.last_id)
     }
 
-    /// A name for a queue or a consumer, where the client leaves it to the broker.
-    pub fn made_up_name(&mut self, start: &str) -> Result<ShortStr, Fault> {
+    /// A name where the client leaves it to the broker.
+    pub fn made_up_name(&mut self, start: &str) -> Result<ShortStr> {
         let id = self.next_id()?;
         let name = format!(in self.alloc; "{start}-{id}")?;
         Ok(ShortStr::text(self.alloc, name.as_str())?)
     }
 
-    pub fn connection(&mut self, id: usize) -> Result<&mut Connection, Fault> {
+    pub fn connection(&mut self, id: usize) -> Result<&mut Connection> {
         Ok(self.connections.get_mut(&id).ok_or(AskFault::NotRunning)?)
     }
 
-    pub fn channel(&mut self, at: Place) -> Result<&mut Channel, Fault> {
+    pub fn end(&mut self, at: Place) -> Result<&mut End<Server>> {
+        Ok(&mut self.connection(at.0)?.link.end)
+    }
+
+    pub fn channel(&mut self, at: Place) -> Result<&mut Channel> {
         self.connection(at.0)?.channel(at.1)
     }
 
     /// Does what a connection asks for. What can't be done ends it.
-    fn hear(&mut self, id: usize, octets: &[u8]) -> Done {
-        let mut rest = octets;
+    fn hear(&mut self, id: usize, mut octets: &[u8]) -> Done {
         for _ in 0..u64::MAX {
-            let Some(event) = self.connection(id)?.link.hear(&mut rest) else {
+            let Some(event) = self.connection(id)?.link.hear(&mut octets) else {
                 break;
             };
             if self.handle(id, event).is_err() {
@@ -96,67 +93,57 @@ impl Broker {
 
     fn handle(&mut self, id: usize, event: Event) -> Done {
         match event {
-            Event::LoginAsked => self.connection(id)?.login(),
-            Event::OpenAsked => self.connection(id)?.enter(),
-            Event::Opened(channel) => self.connection(id)?.open_channel(channel),
-            Event::Told(channel, message) => self.tell(Place(id, channel), message),
-            Event::Flow(channel, active) => {
-                self.channel(Place(id, channel))?.is_flowing = active;
-                Ok(())
+            Event::LoginAsked => self.connection(id)?.login()?,
+            Event::OpenAsked => self.connection(id)?.enter()?,
+            Event::Opened(channel) => {
+                let opened = Channel::new(self.alloc)?;
+                self.connection(id)?.channels.insert(channel, opened)?;
             }
+            Event::Told(channel, message) => self.tell(Place(id, channel), message)?,
+            Event::Flow(channel, active) => self.channel(Place(id, channel))?.is_flowing = active,
             // an end closes a channel of itself where a content is too large
             Event::ChannelClosed(channel, _) | Event::Discarded(channel) => {
-                self.close_channel(Place(id, channel))
+                self.close_channel(Place(id, channel))?;
             }
             // no other asks a server for anything
-            _ => Ok(()),
+            _ => {}
         }
+        Ok(())
     }
 
-    /// Does what a method asks for, and answers it if the client wants that. One that is refused closes its channel, or
-    /// the connection where the error is a hard one.
+    /// Does what a method asks for, and answers it if the client wants that, or closes for it.
     fn tell(&mut self, at: Place, message: Message) -> Done {
         let kind = message.method().kind();
         let is_answered = message.method().is_request() || kind.has_content();
         match self.answer(at, message) {
-            Ok(Some(answer)) if is_answered => {
-                let end = &mut self.connection(at.0)?.link.end;
-                Ok(end.send(at.1, &answer)?)
-            }
+            Ok(Some(answer)) if is_answered => Ok(self.end(at)?.send(at.1, &answer)?),
             Ok(_) => Ok(()),
-            Err(fault) => {
-                let (code, text) = fault.into_close(self.alloc)?;
-                self.close_for(at, code, &text, kind)
-            }
+            Err(fault) => self.close_for(at, fault, kind),
         }
     }
 
     fn answer(&mut self, at: Place, message: Message) -> Answer {
         let (method, content) = message.into_parts();
-        if let Some((properties, body)) = content {
-            // a client sends contents after no other
-            let Ok(publish) = Publish::from_method(method) else {
-                return Ok(None);
-            };
-            let header = usize::try_from(properties.header_length().saturating_mul(SPREAD));
-            let octets = body.len().saturating_add(header.unwrap_or(usize::MAX));
-            let content = Content {
-                publish,
-                properties,
-                share: Share::new(octets, &self.held)?,
-                body,
-            };
-            return self.publish(at, content);
-        }
         match AnyMethod::from_method(method) {
-            AnyMethod::Exchange(Exchange::Declare(declare)) => self.declare_exchange(declare),
-            AnyMethod::Exchange(Exchange::Delete(delete)) => self.delete_exchange(delete),
+            AnyMethod::Exchange(Exchanging::Declare(declare)) => self.declare_exchange(declare),
+            AnyMethod::Exchange(Exchanging::Delete(delete)) => self.delete_exchange(delete),
             AnyMethod::Exchange(_) => refused(reply::NOT_IMPLEMENTED, "bound exchanges", None),
-            AnyMethod::Queue(Queue::Declare(declare)) => self.declare_queue(at, declare),
-            AnyMethod::Queue(Queue::Bind(bind)) => self.bind_queue(at, bind),
-            AnyMethod::Queue(Queue::Unbind(unbind)) => self.unbind_queue(at, unbind),
-            AnyMethod::Queue(Queue::Purge(purge)) => self.purge_queue(at, purge),
-            AnyMethod::Queue(Queue::Delete(delete)) => self.delete_queue(at, delete),
+            AnyMethod::Queue(queue::AnyMethod::Declare(declare)) => self.declare_queue(at, declare),
+            AnyMethod::Queue(queue::AnyMethod::Bind(bind)) => self.bind_queue(at, bind),
+            AnyMethod::Queue(queue::AnyMethod::Unbind(unbind)) => self.unbind_queue(at, unbind),
+            AnyMethod::Queue(queue::AnyMethod::Purge(purge)) => self.purge_queue(at, purge),
+            AnyMethod::Queue(queue::AnyMethod::Delete(delete)) => self.delete_queue(at, delete),
+            AnyMethod::Basic(Basic::Publish(publish)) => {
+                let (properties, body) = content.ok_or(AskFault::NotSendable)?;
+                let share = Share::new(properties.header_length(), body.len(), &self.held)?;
+                let content = Content {
+                    publish,
+                    properties,
+                    body,
+                    share,
+                };
+                self.publish(at, content)
+            }
             AnyMethod::Basic(method) => self.answer_basic(at, method),
             AnyMethod::Confirm(_) => self.select_confirms(at),
             AnyMethod::Tx(_) => refused(reply::NOT_IMPLEMENTED, "transactions", None),
@@ -180,24 +167,20 @@ impl Broker {
         }
     }
 
-    /// Closes the channel, or the connection, for a method of this kind.
-    fn close_for(&mut self, at: Place, code: u16, text: &ShortStr, kind: Kind) -> Done {
+    /// Closes the channel, or the connection where the error is a hard one.
+    fn close_for(&mut self, at: Place, fault: Fault, kind: Kind) -> Done {
+        let (code, text) = fault.into_close(self.alloc)?;
         if reply::is_hard(code) {
             self.close_channels(at.0)?;
-            let end = &mut self.connection(at.0)?.link.end;
-            end.close_for(code, text, kind)?;
-        } else {
-            self.close_channel(at)?;
-            let end = &mut self.connection(at.0)?.link.end;
-            end.close_channel_for(at.1, code, text, kind)?;
+            return Ok(self.end(at)?.close_for(code, &text, kind)?);
         }
-        Ok(())
+        self.close_channel(at)?;
+        Ok(self.end(at)?.close_channel_for(at.1, code, &text, kind)?)
     }
 
     /// A channel is gone: its consumers are, and what was sent on it and not acknowledged goes back.
     fn close_channel(&mut self, at: Place) -> Done {
-        let channels = &mut self.connection(at.0)?.channels;
-        if let Some(mut channel) = channels.remove(&at.1) {
+        if let Some(mut channel) = self.connection(at.0)?.channels.remove(&at.1) {
             channel.settle_in(&mut self.queues, 0, u64::MAX, true)?;
             for (id, consumer) in channel.consumers.iter() {
                 self.remove_consumer(consumer.queue, *id);
@@ -206,7 +189,6 @@ impl Broker {
         Ok(())
     }
 
-    /// All channels of a connection are gone.
     fn close_channels(&mut self, id: usize) -> Done {
         let alloc = self.alloc;
         let numbers = self.connection(id)?.channels.keys().copied();
@@ -220,14 +202,11 @@ impl Broker {
     /// Each queue sends what it can. Who sent first is asked last the next time, so that none waits for ever.
     fn deliver(&mut self) {
         let (first, mut sender) = (self.first, None);
-        for (id, queue) in self.queues.iter_mut() {
-            if *id >= first && queue.deliver(&mut self.connections) {
-                sender = sender.or(Some(*id));
-            }
-        }
-        for (id, queue) in self.queues.iter_mut() {
-            if *id < first && queue.deliver(&mut self.connections) {
-                sender = sender.or(Some(*id));
+        for is_before in [false, true] {
+            for (id, queue) in self.queues.iter_mut() {
+                if (*id < first) == is_before && queue.deliver(&mut self.connections) {
+                    sender = sender.or(Some(*id));
+                }
             }
         }
         self.first = sender.map_or(first, |id| id.saturating_add(1));
@@ -264,11 +243,9 @@ impl Program for Broker {
         }
     }
 
-    /// Gives each connection a turn, and each queue: it sends its messages to its consumers.
     fn turn(&mut self, _: &impl Print, ticks: bool, room: &mut [u8]) -> anyhow::Result<()> {
         let is_short = self.held.get() > BOUND;
-        let ids = self.connections.keys().copied();
-        let ids: Vec<usize> = ids.collect(self.alloc)?;
+        let ids: Vec<usize> = self.connections.keys().copied().collect(self.alloc)?;
         for id in ids {
             let count = self.connection(id)?.turn(is_short, ticks, room);
             self.hear(id, &room[..count])?;

@@ -1,17 +1,13 @@
 //! Exchanges: how each was declared, its bindings, and which of them a message takes.
-ghost use Rattle.std.specs.Prelude.{◌≡◌, ◌↔◌, true, false, Contains};
-
 use crate::broker::Broker;
-use crate::fault::{Answer, Done, Fault, answer, refused};
-use crate::messages::Content;
+use crate::fault::{Answer, Done, Result, answer, refused};
 use crate::queues::{Place, QueueId};
-use crate::topic::topic_matches;
 use amqp_method::reply;
 use amqp_typed::exchange::{self, Declare};
 use amqp_typed::{Typed, queue};
 use amqp_value::{ShortStr, Table, Value};
-use std::alloc::{AllocError, Global};
-use std::collections::BTreeMap;
+use example_store::{Content, headers_match, topic_matches};
+use std::alloc::Global;
 
 /// The exchanges that are there from the start, with their types.
 const STANDARD: [(&str, &str); 5] = [
@@ -26,13 +22,13 @@ const STANDARD: [(&str, &str); 5] = [
 pub struct Binding {
     queue: QueueId,
     key: ShortStr,
-    arguments: Table,
+    args: Table,
 }
 
 impl Binding {
     /// Whether it is the same, in whatever order its arguments stand.
     fn is_same(&self, other: &Binding) -> bool {
-        let (own, others) = (self.arguments.pairs(), &other.arguments);
+        let (own, others) = (self.args.pairs(), &other.args);
         let is_there = |pair: &(ShortStr, Value)| others.get(pair.0.as_bytes()) == Some(&pair.1);
         let are_alike = own.len() == others.len() && own.iter().all(is_there);
         self.queue == other.queue && self.key == other.key && are_alike
@@ -45,9 +41,6 @@ pub struct Exchange {
     bindings: Vec<Binding>,
 }
 
-/// By their names.
-pub type Exchanges = BTreeMap<Vec<u8>, Exchange>;
-
 impl Exchange {
     /// Removes the bindings of a queue, or only the one. It answers whether the exchange goes with its last one.
     pub fn unbind(&mut self, queue: QueueId, only: Option<&Binding>) -> bool {
@@ -59,8 +52,7 @@ impl Exchange {
         self.declare.auto_delete && before > 0 && self.bindings.is_empty()
     }
 
-    /// The queues to which a message goes, each once.
-    fn route(&self, alloc: Global, message: &Content) -> Result<Vec<QueueId>, AllocError> {
+    fn route(&self, alloc: Global, message: &Content) -> Result<Vec<QueueId>> {
         let key = &message.publish.routing_key;
         let headers = message.properties.headers.as_ref();
         let mut queues = Vec::new(alloc);
@@ -69,7 +61,7 @@ impl Exchange {
                 b"direct" => binding.key == *key,
                 b"fanout" => true,
                 b"topic" => topic_matches(alloc, &binding.key, key)?,
-                _ => headers_match(alloc, &binding.arguments, headers)?,
+                _ => headers_match(alloc, &binding.args, headers)?,
             };
             if matches {
                 queues.push(binding.queue)?;
@@ -78,46 +70,6 @@ impl Exchange {
         queues.sort_unstable();
         queues.dedup();
         Ok(queues)
-    }
-}
-
-/// Whether a binding's arguments are among the headers with the same values: all of them, or, with `x-match` `any`, at
-/// least one. One without a value asks for the name alone, and names that begin with `x-` don't count.
-fn headers_match(
-    alloc: Global,
-    arguments: &Table,
-    headers: Option<&Table>,
-) -> Result<bool, AllocError> {
-    let mut tests = Vec::new(alloc);
-    for (name, wanted) in arguments.pairs() {
-        if !name.as_bytes().starts_with(b"x-") {
-            let value = headers.and_then(|headers| headers.get(name.as_bytes()));
-            tests.push(value.is_some_and(|value| *wanted == Value::Void
-                || are_equal(wanted, value)))?;
-        }
-    }
-    let x_match = arguments.get(b"x-match").and_then(Value::as_bytes);
-    Ok(tests_suffice(x_match == Some(b"any".as_slice()), &tests))
-}
-
-/// Whether two values are the same: whole numbers of any width, and octets under either tag.
-fn are_equal(wanted: &Value, value: &Value) -> bool {
-    match (wanted.as_i64(), wanted.as_bytes()) {
-        (Some(number), _) => value.as_i64() == Some(number),
-        (None, Some(octets)) => value.as_bytes() == Some(octets),
-        (None, None) => *wanted == *value,
-    }
-}
-
-/// Whether so many tests hold as a binding asks for: one of them, or all.
-fn tests_suffice(any: bool, tests: &[bool]) -> bool
-    ensures any { any ≡ true → ((result ≡ true) ↔ Contains tests.now true) }
-    ensures all { any ≡ false → ((result ≡ false) ↔ Contains tests.now false) }
-{
-    if any {
-        tests.contains(&true)
-    } else {
-        !tests.contains(&false)
     }
 }
 
@@ -160,7 +112,7 @@ impl Broker {
     }
 
     /// The exchange of a name. Nothing is declared or bound at the one without a name.
-    fn exchange(&mut self, name: &ShortStr) -> Result<&mut Exchange, Fault> {
+    fn exchange(&mut self, name: &ShortStr) -> Result<&mut Exchange> {
         match self.exchanges.get_mut(name.as_bytes()) {
             Some(exchange) => Ok(exchange),
             None if name.is_empty() => refused(reply::ACCESS_REFUSED, "default exchange", None),
@@ -168,8 +120,8 @@ impl Broker {
         }
     }
 
-    /// The queues to which a message goes that is published.
-    pub fn route(&mut self, message: &Content) -> Result<Vec<QueueId>, Fault> {
+    /// The queues to which a message goes, each once.
+    pub fn route(&mut self, message: &Content) -> Result<Vec<QueueId>> {
         let (alloc, name) = (self.alloc, &message.publish.exchange);
         if name.is_empty() {
             let queue = self.names.get(message.publish.routing_key.as_bytes());
@@ -179,7 +131,7 @@ impl Broker {
         if exchange.declare.internal {
             return refused(reply::ACCESS_REFUSED, "internal exchange", Some(name));
         }
-        Ok(exchange.route(alloc, message)?)
+        exchange.route(alloc, message)
     }
 
     pub fn declare_exchange(&mut self, declare: Declare) -> Answer {
@@ -210,26 +162,20 @@ impl Broker {
     }
 
     /// A binding of a queue. Where neither its name nor a key is given, the key is the name of the queue declared last.
-    fn binding(
-        &mut self,
-        at: Place,
-        name: ShortStr,
-        mut key: ShortStr,
-        arguments: Table,
-    ) -> Result<Binding, Fault> {
-        let queue = self.queue(at, &name)?.id;
-        if name.is_empty() && key.is_empty() {
-            key = self.queue_name(at, &name)?;
-        }
-        Ok(Binding {
-            queue,
-            key,
-            arguments,
-        })
+    fn bound(&mut self, at: Place, name: ShortStr, key: ShortStr, args: Table) -> Result<Binding> {
+        let queue = self.queue(at, &name)?;
+        let is_given = !name.is_empty() || !key.is_empty();
+        let key = if is_given {
+            key
+        } else {
+            queue.declare.queue.copy()?
+        };
+        let queue = queue.id;
+        Ok(Binding { queue, key, args })
     }
 
     pub fn bind_queue(&mut self, at: Place, bind: queue::Bind) -> Answer {
-        let binding = self.binding(at, bind.queue, bind.routing_key, bind.arguments)?;
+        let binding = self.bound(at, bind.queue, bind.routing_key, bind.arguments)?;
         let bindings = &mut self.exchange(&bind.exchange)?.bindings;
         if !bindings.iter().any(|own| own.is_same(&binding)) {
             bindings.push(binding)?;
@@ -238,7 +184,7 @@ impl Broker {
     }
 
     pub fn unbind_queue(&mut self, at: Place, unbind: queue::Unbind) -> Answer {
-        let binding = self.binding(at, unbind.queue, unbind.routing_key, unbind.arguments)?;
+        let binding = self.bound(at, unbind.queue, unbind.routing_key, unbind.arguments)?;
         let exchange = self.exchange(&unbind.exchange)?;
         if exchange.unbind(binding.queue, Some(&binding)) {
             self.exchanges.remove(unbind.exchange.as_bytes());

@@ -4,14 +4,10 @@
 mod broker;
 mod channel;
 mod connection;
-mod credit;
 mod exchanges;
 mod fault;
-mod login;
-mod messages;
 mod messaging;
 mod queues;
-mod topic;
 
 use crate::broker::Broker;
 use example_loop::serve;

@@ -1,32 +1,29 @@
 //! Messages: published, consumed, fetched, acknowledged.
 use crate::broker::{BOUND, Broker};
 use crate::channel::Consumer;
-use crate::credit::Credit;
 use crate::fault::{Answer, Done, answer, refused};
-use crate::messages::Content;
 use crate::queues::Place;
 use amqp_core::AskFault;
 use amqp_method::reply;
 use amqp_typed::{Typed, basic, confirm};
 use amqp_value::ShortStr;
+use example_store::{Content, Credit};
 use std::rc::Rc;
 
 impl Broker {
-    /// Hands a message to the queues that it is bound for. A mandatory one that none takes is sent back.
-    /// Either way it is confirmed, if the client asked for confirms.
+    /// Hands a message to the queues that it is bound for, and confirms it if the client asked for confirms.
     pub fn publish(&mut self, at: Place, content: Content) -> Answer {
         if content.publish.immediate {
             return refused(reply::NOT_IMPLEMENTED, "immediate=true", None);
         }
         let queues = self.route(&content)?;
         if queues.is_empty() && content.publish.mandatory {
-            self.send_back(at, content)?;
-        } else {
-            let content = Rc::new(self.alloc, content)?;
-            for id in &queues {
-                if let Some(queue) = self.queues.get_mut(id) {
-                    queue.messages.push(content.clone()?)?;
-                }
+            self.send_back(at, &content)?;
+        }
+        let content = Rc::new(self.alloc, content)?;
+        for id in &queues {
+            if let Some(queue) = self.queues.get_mut(id) {
+                queue.messages.push(content.clone()?)?;
             }
         }
         let connection = self.connection(at.0)?;
@@ -38,43 +35,40 @@ impl Broker {
         answer(basic::Ack::new(*published).into_method(self.alloc))
     }
 
-    /// Sends back a message that no queue takes.
-    fn send_back(&mut self, at: Place, content: Content) -> Done {
+    fn send_back(&mut self, at: Place, content: &Content) -> Done {
         if !self.channel(at)?.is_flowing {
             let why = "a return is due while the channel is paused";
             return refused(reply::PRECONDITION_FAILED, why, None);
         }
         let text = ShortStr::text(self.alloc, "NO_ROUTE")?;
-        let (exchange, key) = (content.publish.exchange, content.publish.routing_key);
+        let exchange = content.publish.exchange.copy()?;
+        let key = content.publish.routing_key.copy()?;
         let returned = basic::Return::new(reply::NO_ROUTE, text, exchange, key);
         let method = returned.into_method(self.alloc)?;
-        let end = &mut self.connection(at.0)?.link.end;
-        end.send_content(at.1, &method, &content.properties, &content.body)?;
-        Ok(())
+        let end = self.end(at)?;
+        Ok(end.send_content(at.1, &method, &content.properties, &content.body)?)
     }
 
-    /// From now on each message that is published on the channel is confirmed.
     pub fn select_confirms(&mut self, at: Place) -> Answer {
         let channel = self.channel(at)?;
         channel.published = channel.published.or(Some(0));
         answer(confirm::SelectOk::new().into_method(self.alloc))
     }
 
-    /// From now on so many messages may wait to be acknowledged: of each new consumer, or of the whole channel.
+    /// Limits each consumer that is added from now on, or the whole channel.
     pub fn set_qos(&mut self, at: Place, qos: basic::Qos) -> Answer {
         let channel = self.channel(at)?;
         if qos.prefetch_size != 0 {
             return refused(reply::NOT_IMPLEMENTED, "prefetch_size!=0", None);
         } else if qos.global {
-            channel.credit.set_limit(qos.prefetch_count);
+            channel.credit.limit = qos.prefetch_count;
         } else {
             channel.prefetch = qos.prefetch_count;
-            channel.credit.set_limit(0);
+            channel.credit.limit = 0;
         }
         answer(basic::QosOk::new().into_method(self.alloc))
     }
 
-    /// Adds a consumer, which may have the queue for itself.
     pub fn consume(&mut self, at: Place, consume: basic::Consume) -> Answer {
         let (id, mut tag) = (self.next_id()?, consume.consumer_tag);
         if tag.is_empty() {
@@ -114,7 +108,6 @@ impl Broker {
         answer(basic::CancelOk::new(tag).into_method(self.alloc))
     }
 
-    /// Sends the first ready message of a queue, if there is one.
     pub fn get(&mut self, at: Place, get: basic::Get) -> Answer {
         let id = self.queue(at, &get.queue)?.id;
         let queue = self.queues.get_mut(&id).ok_or(AskFault::NotOpen)?;
@@ -128,8 +121,7 @@ impl Broker {
         answer(basic::GetEmpty::new().into_method(self.alloc))
     }
 
-    /// Messages that were sent are done with: one, or with `multiple` all up to it, where 0 stands for the
-    /// last. They leave their queues, or go back to them.
+    /// Settles one message, or with `multiple` all up to it, where 0 stands for the last.
     pub fn settle(&mut self, at: Place, tag: u64, multiple: bool, requeue: bool) -> Answer {
         let connection = self.connections.get_mut(&at.0).ok_or(AskFault::NotOpen)?;
         let channel = connection.channel(at.1)?;
@@ -142,7 +134,6 @@ impl Broker {
         Ok(None)
     }
 
-    /// All messages that were sent on a channel go back to their queues.
     pub fn recover(&mut self, at: Place, requeue: bool) -> Answer {
         if !requeue {
             return refused(reply::NOT_IMPLEMENTED, "requeue=false", None);

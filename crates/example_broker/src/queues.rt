@@ -2,42 +2,39 @@
 use crate::broker::Broker;
 use crate::connection::Connection;
 use crate::exchanges::check_not_reserved;
-use crate::fault::{Answer, Done, Fault, answer, refused};
-use crate::messages::Messages;
+use crate::fault::{Answer, Done, Result, answer, refused};
 use amqp_method::reply;
 use amqp_typed::Typed;
 use amqp_typed::queue::{self, Declare};
 use amqp_value::{ShortStr, Table};
+use example_store::Messages;
 use std::alloc::Global;
 use std::collections::{BTreeMap, VecDeque};
 
-/// What the broker calls a queue. A number is never used again, so what still refers to a queue that is gone
-/// finds none.
+/// Never used again, so what still refers to a queue that is gone finds none.
 pub type QueueId = u64;
 
-/// By their numbers.
 pub type Queues = BTreeMap<QueueId, Queue>;
 
-/// A channel of a connection: the numbers of both.
+/// The numbers of a connection and of a channel.
 #[derive(Clone, Copy)]
 pub struct Place(pub usize, pub u16);
 
 #[derive(Drop)]
 pub struct Queue {
     pub id: QueueId,
-    declare: Declare,
+    pub declare: Declare,
     /// The connection that alone may use the queue, and with which it ends.
     pub owner: Option<usize>,
     /// One consumer has the queue for itself.
     pub is_taken: bool,
     pub messages: Messages,
-    /// The consumers, each with its channel. The next to get a message comes first.
+    /// The next to get a message comes first.
     pub consumers: VecDeque<(Place, u64)>,
 }
 
 impl Queue {
-    /// Sends messages to the consumers by turns, until there are none or no consumer may be sent one. It answers whether
-    /// it sent any.
+    /// Sends what it can to the consumers, by turns. It answers whether it sent any.
     pub fn deliver(&mut self, connections: &mut BTreeMap<usize, Connection>) -> bool {
         let (mut passed, mut has_sent) = (0, false);
         for _ in 0..u64::MAX {
@@ -48,6 +45,7 @@ impl Queue {
             passed += 1;
             if let Some((at, id)) = self.consumers.back().copied()
                 && let Some(connection) = connections.get_mut(&at.0)
+                && connection.has_room()
             {
                 match connection.offer(self, at.1, id) {
                     Ok(true) => (passed, has_sent) = (0, true),
@@ -60,8 +58,7 @@ impl Queue {
     }
 }
 
-/// A declaration of a queue with this name as it is kept, and compared with a later one. What is exclusive ends with its
-/// connection, durable or not.
+/// A declaration as it is kept, and compared with a later one. What is exclusive ends with its connection anyway.
 fn kept(mut declare: Declare, name: ShortStr, alloc: Global) -> Declare {
     declare.queue = name;
     declare.durable &= !declare.exclusive;
@@ -70,22 +67,16 @@ fn kept(mut declare: Declare, name: ShortStr, alloc: Global) -> Declare {
     declare
 }
 
-/// A number of messages or consumers, as methods have it.
-pub fn count(number: usize) -> u32 {
-    u32::try_from(number).unwrap_or(u32::MAX)
-}
-
 impl Broker {
     /// The name of a queue that a method means: an empty one stands for the one declared last on the channel.
-    pub fn queue_name(&mut self, at: Place, name: &ShortStr) -> Result<ShortStr, Fault> {
+    fn queue_name(&mut self, at: Place, name: &ShortStr) -> Result<ShortStr> {
         if name.is_empty() {
             return Ok(self.channel(at)?.last_queue.copy()?);
         }
         Ok(name.copy()?)
     }
 
-    /// The queue of a name, for a connection that may use it.
-    pub fn queue(&mut self, at: Place, name: &ShortStr) -> Result<&mut Queue, Fault> {
+    pub fn queue(&mut self, at: Place, name: &ShortStr) -> Result<&mut Queue> {
         let name = self.queue_name(at, name)?;
         let id = self.names.get(name.as_bytes());
         let Some(queue) = id.and_then(|id| self.queues.get_mut(id)) else {
@@ -114,7 +105,8 @@ impl Broker {
             self.add_queue(at, declare)?;
         }
         let queue = self.queue(at, &name)?;
-        let (ready, consumers) = (count(queue.messages.count()), count(queue.consumers.len()));
+        let ready = queue.messages.count();
+        let consumers = u32::try_from(queue.consumers.len()).unwrap_or(u32::MAX);
         self.channel(at)?.last_queue = name.copy()?;
         answer(queue::DeclareOk::new(name, ready, consumers).into_method(self.alloc))
     }
@@ -135,7 +127,6 @@ impl Broker {
         Ok(())
     }
 
-    /// Sees that a queue is there, and is as declared.
     fn check_declared(&mut self, at: Place, declare: &Declare) -> Done {
         let name = Some(&declare.queue);
         let own = &self.queue(at, &declare.queue)?.declare;
@@ -149,22 +140,21 @@ impl Broker {
 
     pub fn delete_queue(&mut self, at: Place, delete: queue::Delete) -> Answer {
         let name = self.queue_name(at, &delete.queue)?;
-        let mut ready = 0;
-        if self.names.contains_key(name.as_bytes()) {
-            let queue = self.queue(at, &name)?;
-            let (id, is_used) = (queue.id, !queue.consumers.is_empty());
-            ready = count(queue.messages.count());
-            if (delete.if_unused && is_used) || (delete.if_empty && ready > 0) {
-                return refused(reply::PRECONDITION_FAILED, "in use: queue", Some(&name));
-            }
-            self.remove_queue(id);
+        if !self.names.contains_key(name.as_bytes()) {
+            return answer(queue::DeleteOk::new(0).into_method(self.alloc));
         }
+        let queue = self.queue(at, &name)?;
+        let (id, ready) = (queue.id, queue.messages.count());
+        if (delete.if_unused && !queue.consumers.is_empty()) || (delete.if_empty && ready > 0) {
+            return refused(reply::PRECONDITION_FAILED, "in use: queue", Some(&name));
+        }
+        self.remove_queue(id);
         answer(queue::DeleteOk::new(ready).into_method(self.alloc))
     }
 
     pub fn purge_queue(&mut self, at: Place, purge: queue::Purge) -> Answer {
         let messages = &mut self.queue(at, &purge.queue)?.messages;
-        let ready = count(messages.count());
+        let ready = messages.count();
         messages.purge();
         answer(queue::PurgeOk::new(ready).into_method(self.alloc))
     }
@@ -189,8 +179,7 @@ impl Broker {
                     channel.consumers.remove(id);
                 }
             }
-            self.exchanges
-                .retain(|_, exchange| !exchange.unbind(id, None));
+            self.exchanges.retain(|_, own| !own.unbind(id, None));
         }
     }
 }

@@ -1,13 +1,14 @@
 -- What is computed of a pattern and a key is what the definition says.
-use Rattle.std.proofs.Common.{ℕ, zero, suc, ◌+◌, ◌<◌, ◌≤◌, List, [], ◌∷◌, ◌++◌, ◌≡◌, ◌↔◌, inl, inr, Bool, true, false, ◌&&◌, ◌||◌, refl, sym, ◌∙◌, ap, ⊎_elim, length, get_or, take, drop, replicate, set, arith}
+use Rattle.std.proofs.Common.{ℕ, zero, suc, ◌+◌, ◌<◌, ◌≤◌, List, [], ◌∷◌, ◌++◌, ◌≡◌, ◌==◌, ◌↔◌, inl, inr, Bool, true, false, ◌&&◌, ◌||◌, refl, sym, ◌∙◌, ap, ⊎_elim, length, get_or, take, drop, replicate, set, arith}
 use Rattle.std.specs.Prelude.{IfOk, IsTrue, Result, Ok, Err}
+use Rattle.std.specs.List.{slice_split}
 use Rattle.std.specs.Str.{bytes_eq}
 use Rattle.std.proofs.lemmas.Slice.Eq.{bytes_eq-Decides}
 use Rattle.std.proofs.lemmas.Bool.{and_parts, and_from, or_cases, or_left, or_right, cond-true, cond-false, cases_Bool, cases_eq}
 use Rattle.std.proofs.lemmas.List.{get_or-set_same, get_or-set_other, append-nil, take_all, drop_all}
 use denote.Ref.{Bor}
-use Rattle.example_broker.specs.Topic.{StandsFor, Matches, words, lent}
-use Rattle.example_broker.specs.TopicRows.{word_match, matches_word, is_match, IsRow}
+use Rattle.example_store.specs.Topic.{StandsFor, Matches, words, lent}
+use Rattle.example_store.specs.TopicRows.{word_match, matches_word, is_match, IsRow}
 
 abbrev pub Words : Type 0
 Words = List (List ℕ)
@@ -95,6 +96,11 @@ exactly pattern key ps ws (Ok b) p k e =
     let same : b ≡ is_match (words pattern) (words key) = e ∙ ap (λ x. is_match x ws) p ∙ ap (λ x. is_match (words pattern) x) k in
     ((λ t. sound (words pattern) (words key) (sym same ∙ t)), (λ m. same ∙ complete (words pattern) (words key) m))
 exactly pattern key ps ws (Err x) p k e = tt
+
+-- a text that has octets has the words that its dots part
+pub words_split : (text : List ℕ) → (length text == 0) ≡ false → slice_split (λ octet. octet == 46) text ≡ words text
+words_split [] e = cc
+words_split (octet ∷ octets) e = refl
 
 -- before any word is taken
 start_long : (key : Words) → length (replicate (length key) false ++ true ∷ []) ≡ length key + 1

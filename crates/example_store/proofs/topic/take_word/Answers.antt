@@ -2,10 +2,10 @@ use Rattle.std.proofs.Common.{arith, ◌-◌, ◌+◌, ◌≡◌, ◌<◌, ℕ, 
 use Rattle.std.proofs.lemmas.List.{length-map}
 use Rattle.std.proofs.lemmas.Grind.{common_steps}
 use denote.Ref.{Bor}
-use Rattle.example_broker.specs.Topic.{lent}
-use Rattle.example_broker.specs.TopicRows.{word_match}
-use Rattle.example_broker.proofs.TopicLemmas.{drop_lent, row_more}
-use Rattle.example_broker.proofs.topic.take_word.Goals as goal
+use Rattle.example_store.specs.Topic.{lent}
+use Rattle.example_store.specs.TopicRows.{word_match}
+use Rattle.example_store.proofs.TopicLemmas.{drop_lent, row_more}
+use Rattle.example_store.proofs.topic.take_word.Goals as goal
 
 pub loop-n-preserved : goal.loop-n-preserved
 loop-n-preserved c = record {

@@ -1,7 +1,7 @@
 use Rattle.std.proofs.Common.{◌≤◌, length, drop}
-use Rattle.example_broker.specs.Topic.{lent}
-use Rattle.example_broker.specs.TopicRows.{IsRow}
-use Rattle.example_broker.proofs.topic.words_match.Given as goal
+use Rattle.example_store.specs.Topic.{lent}
+use Rattle.example_store.specs.TopicRows.{IsRow}
+use Rattle.example_store.proofs.topic.words_match.Given as goal
 
 abbrev pub invariant-loop-taken : goal.invariant-loop-taken
 invariant-loop-taken l = record {

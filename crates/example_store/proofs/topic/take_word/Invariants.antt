@@ -1,7 +1,7 @@
 use Rattle.std.proofs.Common.{◌≡◌, ◌+◌, ◌≤◌, ◌<◌, ◌∷◌, ℕ, List, false, length, get_or, drop}
-use Rattle.example_broker.specs.Topic.{lent}
-use Rattle.example_broker.specs.TopicRows.{IsRow, is_match}
-use Rattle.example_broker.proofs.topic.take_word.Given as goal
+use Rattle.example_store.specs.Topic.{lent}
+use Rattle.example_store.specs.TopicRows.{IsRow, is_match}
+use Rattle.example_store.proofs.topic.take_word.Given as goal
 
 abbrev pub invariant-loop-n : goal.invariant-loop-n
 invariant-loop-n l = record {

@@ -1,10 +1,10 @@
 use Rattle.std.proofs.Common.{arith, ℕ, List, get_or, ◌-◌, ◌+◌, ◌≡◌, ◌≤◌, ◌++◌, ◌∷◌, [], length, drop, replicate, true, false, sym, ◌∙◌, ap, subst}
 use Rattle.std.proofs.lemmas.List.{length-map, drop_all}
 use denote.Ref.{Bor}
-use Rattle.example_broker.specs.Topic.{lent}
-use Rattle.example_broker.specs.TopicRows.{IsRow}
-use Rattle.example_broker.proofs.TopicLemmas.{start_row, drop_lent, row_back}
-use Rattle.example_broker.proofs.topic.words_match.Goals as goal
+use Rattle.example_store.specs.Topic.{lent}
+use Rattle.example_store.specs.TopicRows.{IsRow}
+use Rattle.example_store.proofs.TopicLemmas.{start_row, drop_lent, row_back}
+use Rattle.example_store.proofs.topic.words_match.Goals as goal
 
 pub loop-taken-init : goal.loop-taken-init
 loop-taken-init c =

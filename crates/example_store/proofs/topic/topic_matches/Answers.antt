@@ -1,7 +1,7 @@
 use Rattle.std.proofs.Common.{ap, ◌∙◌}
-use Rattle.example_broker.specs.Topic.{lent, words}
-use Rattle.example_broker.proofs.TopicLemmas.{exactly}
-use Rattle.example_broker.proofs.topic.topic_matches.Goals as goal
+use Rattle.example_store.specs.Topic.{lent, words}
+use Rattle.example_store.proofs.TopicLemmas.{exactly}
+use Rattle.example_store.proofs.topic.topic_matches.Goals as goal
 
 pub returns : goal.returns
 returns c =

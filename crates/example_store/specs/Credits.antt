@@ -1,6 +1,6 @@
 -- Limits on the messages that wait to be acknowledged.
 use Rattle.std.specs.Prelude.{◌≡◌, ◌≢◌, ◌<◌, ◌≤◌, ◌⊎◌}
-use Rattle.example_broker.specs.declared.credit.Credit.{Credit}
+use Rattle.example_store.specs.declared.credit.Credit.{Credit}
 
 -- one more may be sent: there is no limit, or fewer wait
 abbrev pub HasRoom : Credit → Type 0

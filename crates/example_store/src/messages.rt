@@ -10,8 +10,11 @@ use std::cell::Cell;
 use std::collections::BTreeMap;
 use std::rc::Rc;
 
-/// What a message takes beside its body, about.
+/// What a message takes beside its header and its body, about.
 const OVERHEAD: usize = 512;
+
+/// A table takes about so many times the memory that it takes in a header.
+const SPREAD: u64 = 16;
 
 /// A message as it was published. The queues that hold it share it.
 #[derive(Drop)]
@@ -26,9 +29,11 @@ pub struct Content {
 pub struct Share(usize, Rc<Cell<usize>>);
 
 impl Share {
-    /// The share of a message with a body of this length.
-    pub fn new(body: usize, held: &Rc<Cell<usize>>) -> Result<Share, AllocError> {
-        let (octets, held) = (body.saturating_add(OVERHEAD), held.clone()?);
+    /// Of a message whose header and body have these lengths.
+    pub fn new(header: u64, body: usize, held: &Rc<Cell<usize>>) -> Result<Share, AllocError> {
+        let header = usize::try_from(header.saturating_mul(SPREAD)).unwrap_or(usize::MAX);
+        let octets = OVERHEAD.saturating_add(header).saturating_add(body);
+        let held = held.clone()?;
         held.set(held.get().saturating_add(octets));
         Ok(Share(octets, held))
     }
@@ -54,7 +59,7 @@ pub struct Messages {
 
 impl Messages {
     ghost use Rattle.std.specs.Prelude.{false, IfSome, IfNone, OnOk};
-    ghost use Rattle.example_broker.specs.Standing.{is_ready, IsFirst, Readies};
+    ghost use Rattle.example_store.specs.Ready.{is_ready, IsFirst, Readies};
 
     pub fn new(alloc: Global) -> Messages
         ensures { (place : ℕ) → is_ready result place ≡ false }
@@ -67,12 +72,11 @@ impl Messages {
         }
     }
 
-    /// How many are ready.
-    pub fn count(&self) -> usize {
-        self.ready.len()
+    /// How many are ready, as methods have it.
+    pub fn count(&self) -> u32 {
+        u32::try_from(self.ready.len()).unwrap_or(u32::MAX)
     }
 
-    /// Adds a message after all others.
     pub fn push(&mut self, content: Rc<Content>) -> Result<(), AllocError>
         ensures after_all { (place : ℕ) → is_ready self.old place ≡ true → place < self.old.next }
         ensures ready { OnOk result (Readies self.old self.new self.old.next true) }
@@ -83,18 +87,13 @@ impl Messages {
         Ok(())
     }
 
-    /// The message that came first, with its place.
-    pub fn first(&self) -> Option<(u64, &Rc<Content>)>
+    /// The message that came first: its place, and whether it was sent before. They are sent in order.
+    pub fn first(&self) -> Option<(u64, &Rc<Content>, bool)>
         ensures first { IfSome result (λ found. IsFirst self.now found.0) }
         ensures none { IfNone result ((place : ℕ) → is_ready self.now place ≡ false) }
     {
         let (place, content) = self.ready.first_key_value()?;
-        Some((*place, content))
-    }
-
-    /// Whether the message at a place was sent before. They are sent in order, so those before it were too.
-    pub fn was_sent(&self, place: u64) -> bool {
-        place < self.unsent
+        Some((*place, content, *place < self.unsent))
     }
 
     /// The message at a place was sent.
@@ -105,7 +104,7 @@ impl Messages {
         self.unsent = self.unsent.max(place.saturating_add(1));
     }
 
-    /// A message that was sent comes back, to the place that it had.
+    /// A message that was sent comes back.
     pub fn put_back(&mut self, place: u64, content: Rc<Content>) -> Result<(), AllocError>
         ensures { OnOk result (place < self.old.next → Readies self.old self.new place true) }
     {
@@ -115,7 +114,6 @@ impl Messages {
         Ok(())
     }
 
-    /// All that are ready leave.
     pub fn purge(&mut self)
         ensures { (place : ℕ) → is_ready self.new place ≡ false }
     {

@@ -1,13 +1,12 @@
 //! Topics: routing keys and patterns of words that dots part.
 ghost use Rattle.std.specs.List.{slice_split};
 ghost use Rattle.std.specs.Prelude.{◌≡◌, ◌==◌, ◌↔◌, ◌+◌, ◌∷◌, IfOk, IsTrue, List, ℕ, length};
-ghost use Rattle.example_broker.specs.Topic.{Matches, lent, words};
-ghost use Rattle.example_broker.specs.TopicRows.{IsRow, is_match, word_match};
+ghost use Rattle.example_store.specs.Topic.{Matches, lent, words};
+ghost use Rattle.example_store.specs.TopicRows.{IsRow, is_match, word_match};
 
 use amqp_value::ShortStr;
 use std::alloc::{AllocError, Global};
 
-/// Whether a pattern matches a routing key.
 pub fn topic_matches(alloc: Global, pattern: &ShortStr, key: &ShortStr) -> Result<bool, AllocError>
     ensures { IfOk result (λ matches. IsTrue matches ↔ Matches (words pattern.now) (words key.now)) }
 {
@@ -23,19 +22,11 @@ fn split_words(alloc: Global, text: &[u8]) -> Result<Vec<&[u8]>, AllocError>
     if text.is_empty() {
         return Ok(Vec::new(alloc));
     }
-    split_at_dots(alloc, text)
-}
-
-/// What stands before, between and after the dots of a text.
-fn split_at_dots(alloc: Global, text: &[u8]) -> Result<Vec<&[u8]>, AllocError>
-    ensures { IfOk result (λ v. lent v.items ≡ slice_split (λ octet. octet == 46) text.now) }
-{
     text.split(|octet| *octet == b'.').collect(alloc)
 }
 
-/// Whether the words of a pattern match those of a key. Takes the pattern's words from the last on, and keeps
-/// for each rest of the key whether the words taken match it. So the work grows with the product of the two
-/// lengths alone.
+/// Takes the pattern's words from the last on, and keeps for each rest of the key whether the words taken match it. So
+/// the work grows with the product of the two lengths alone.
 fn words_match(alloc: Global, pattern: &[&[u8]], key: &[&[u8]]) -> Result<bool, AllocError>
     ensures { IfOk result (λ matches. matches ≡ is_match (lent pattern.now) (lent key.now)) }
 {
@@ -68,9 +59,8 @@ fn take_word(word: &[u8], key: &[&[u8]], row: &mut [bool])
     }
 }
 
-/// Whether the pattern from a word on matches the key from a word on. After the pattern's word the rest of
-/// the pattern matches the key from its word on, as `here` says, and from the next word on, as `after` says;
-/// and `above` says whether all of it matches from there on.
+/// Whether the pattern from a word on matches the key from a word on. `here` says whether the rest of the pattern does,
+/// and `after` whether it matches the key from the next word on; `above` says whether all of it does from there on.
 fn word_matches(word: &[u8], first: &[u8], here: bool, above: bool, after: bool) -> bool
     ensures { result ≡ word_match word.now first.now here above after }
 {

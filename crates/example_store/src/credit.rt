@@ -1,11 +1,11 @@
-//! How many messages a client may have that it hasn't acknowledged.
+//! How many messages may wait to be acknowledged.
 ghost use Rattle.std.specs.Prelude.{◌≡◌, ◌↔◌, IsTrue};
-ghost use Rattle.example_broker.specs.Credits.{HasRoom, IsWithin};
+ghost use Rattle.example_store.specs.Credits.{HasRoom, IsWithin};
 
-/// A limit on the messages that were sent and not acknowledged yet, and how many there are. The limit 0 is none.
+/// A limit on the messages that wait to be acknowledged, and how many do. The limit 0 is none.
 #[derive(Clone, Copy)]
 pub struct Credit {
-    limit: u16,
+    pub limit: u16,
     used: u64,
 }
 
@@ -16,15 +16,6 @@ impl Credit {
         Credit { limit, used: 0 }
     }
 
-    /// From now on there is this limit. Where more were sent already, none is sent until fewer are left.
-    pub fn set_limit(&mut self, limit: u16)
-        ensures limit { self.new.limit ≡ limit }
-        ensures used { self.new.used ≡ self.old.used }
-    {
-        self.limit = limit;
-    }
-
-    /// Whether one more may be sent.
     pub fn has_room(&self) -> bool
         ensures { IsTrue result ↔ HasRoom self.now }
     {

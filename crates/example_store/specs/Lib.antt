@@ -1,0 +1,4 @@
+pub mod Credits
+pub mod Ready
+pub mod Topic
+pub mod TopicRows

@@ -1,0 +1,42 @@
+//! Headers that a binding asks for.
+ghost use Rattle.std.specs.Prelude.{◌≡◌, ◌↔◌, true, false, Contains};
+
+use amqp_value::{Table, Value};
+use std::alloc::{AllocError, Global};
+
+/// Whether a binding's arguments are among the headers: all, or one with `x-match` `any`. Names in `x-` don't count.
+pub fn headers_match(
+    alloc: Global,
+    args: &Table,
+    headers: Option<&Table>,
+) -> Result<bool, AllocError> {
+    let mut tests = Vec::new(alloc);
+    for (name, wanted) in args.pairs() {
+        if !name.as_bytes().starts_with(b"x-") {
+            let value = headers.and_then(|headers| headers.get(name.as_bytes()));
+            tests.push(value.is_some_and(|value| is_met(wanted, value)))?;
+        }
+    }
+    let x_match = args.get(b"x-match").and_then(Value::as_bytes);
+    Ok(tests_suffice(x_match == Some(b"any".as_slice()), &tests))
+}
+
+/// Whether a header is as wanted: void asks for any, a whole number is of any width, and octets are under either tag.
+fn is_met(wanted: &Value, value: &Value) -> bool {
+    match (wanted.as_i64(), wanted.as_bytes()) {
+        (Some(number), _) => value.as_i64() == Some(number),
+        (None, Some(octets)) => value.as_bytes() == Some(octets),
+        (None, None) => *wanted == Value::Void || *wanted == *value,
+    }
+}
+
+fn tests_suffice(any: bool, tests: &[bool]) -> bool
+    ensures any { any ≡ true → ((result ≡ true) ↔ Contains tests.now true) }
+    ensures all { any ≡ false → ((result ≡ false) ↔ Contains tests.now false) }
+{
+    if any {
+        tests.contains(&true)
+    } else {
+        !tests.contains(&false)
+    }
+}
