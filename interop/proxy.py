@@ -6,6 +6,7 @@ a proxy alone has to do. The variable PROXY has the proxy's words."""
 
 import os
 import pathlib
+import select
 import socket
 import struct
 import subprocess
@@ -284,68 +285,134 @@ def large_content():
         connection.close()
 
 
+OPEN, CLOSE_OK = b"\0\x14\0\x0a\0", b"\0\x14\0\x29"
+CLOSE = b"\0\x14\0\x28\0\xc8" + short(b"bye") + b"\0\0\0\0"
+
+
+def open_channels(client, queue, channels=1, flags=0):
+    """Logs in, opens channels and declares a queue on the first. What follows finds them open at the broker."""
+    log_in(client)
+    client.sendall(b"".join(frame(1, number + 1, OPEN) for number in range(channels)))
+    client.sendall(frame(1, 1, b"\0\x32\0\x0a\0\0" + short(queue) + bytes([flags]) + bytes(4)))
+    until(client, short(queue) + bytes(8))
+
+
+def is_quiet(client, seconds):
+    return not select.select([client], [], [], seconds)[0]
+
+
 def contents_in_turn():
-    """Two contents of one client whose frames come in turn: one goes out as it comes, the other is gathered."""
+    """Two contents of one client whose frames come in turn: one goes out as it comes, the other waits for its end."""
     bodies = {1: os.urandom(900_000), 2: os.urandom(600_000)}
     with Proxy() as proxy, socket.create_connection(("127.0.0.1", proxy.port), timeout=30) as client:
         connection = proxy.connect()
         channel = connection.channel()
         queues = {number: channel.queue_declare("", exclusive=True).method.queue for number in bodies}
-        log_in(client)
+        open_channels(client, b"p.turns", channels=2)
         for number, body in bodies.items():
-            client.sendall(frame(1, number, b"\0\x14\0\x0a\0") + frame(1, number, publish(queues[number].encode())))
-            client.sendall(frame(2, number, content(len(body))))
-        for start in range(0, 900_000, 50_000):
+            client.sendall(frame(1, number, publish(queues[number].encode())) + frame(2, number, content(len(body))))
+        for start in range(0, 850_000, 50_000):
             for number, body in bodies.items():
                 if start < len(body):
                     client.sendall(frame(3, number, body[start : start + 50_000]))
-        time.sleep(2)
+        time.sleep(1)
+        found = channel.basic_get(queues[2], auto_ack=True)[2]
+        says("proxy: a content that is whole waits for one that was begun", None, found)
+        client.sendall(frame(3, 1, bodies[1][850_000:]))
+        time.sleep(1)
         found = {number: channel.basic_get(queue, auto_ack=True)[2] for number, queue in queues.items()}
         says("proxy: two contents whose frames come in turn", True, found == bodies)
+        channel.queue_delete("p.turns")
         connection.close()
 
 
 def half_a_content():
-    """A client that is gone in the middle of a content, which nobody gets."""
+    """A client that is gone in the middle of a content: nobody gets anything of it, and its connection ends."""
     with Proxy() as proxy:
         connection = proxy.connect()
         channel = connection.channel()
         queue = channel.queue_declare("", exclusive=True).method.queue
         with socket.create_connection(("127.0.0.1", proxy.port), timeout=30) as client:
-            log_in(client)
-            client.sendall(frame(1, 1, b"\0\x14\0\x0a\0") + frame(1, 1, publish(queue.encode())))
-            client.sendall(frame(2, 1, content(1_000_000)) + frame(3, 1, bytes(100_000)))
+            open_channels(client, b"p.half", flags=4)
+            client.sendall(frame(1, 1, publish(queue.encode())) + frame(2, 1, content(1_000_000)))
+            client.sendall(frame(3, 1, bytes(100_000)))
             time.sleep(1)
         time.sleep(1)
         channel.basic_publish("", queue, b"whole")
         says("proxy: nothing of half a content", b"whole", channel.basic_get(queue, auto_ack=True)[2])
         says("proxy: nothing after it", None, channel.basic_get(queue, auto_ack=True)[2])
+        try:
+            channel.queue_declare("p.half", passive=True)
+            found = None
+        except pika.exceptions.ChannelClosedByBroker as error:
+            found = error.reply_code
+        says("proxy: the connection to the broker ended with it", 404, found)
         connection.close()
 
 
-def closed_in_the_middle():
-    """A channel that the broker closes while a content goes to it: other channels go on."""
+def closed_by_the_receiver():
+    """A channel that the broker closes while a content goes to it: the client hears of it once it has sent the rest."""
     with Proxy() as proxy, socket.create_connection(("127.0.0.1", proxy.port), timeout=30) as client:
         connection = proxy.connect()
         channel = connection.channel()
         queue = channel.queue_declare("", exclusive=True).method.queue
-        log_in(client)
-        client.sendall(frame(1, 1, b"\0\x14\0\x0a\0") + frame(1, 2, b"\0\x14\0\x0a\0"))
-        client.sendall(frame(1, 1, publish(b"", b"nowhere")) + frame(2, 1, content(4)) + frame(3, 1, b"lost"))
-        client.sendall(frame(1, 1, publish(queue.encode())))
-        client.sendall(frame(2, 1, content(1_000_000)) + frame(3, 1, bytes(100_000)))
+        open_channels(client, b"p.middle", channels=2)
+        lost = frame(1, 1, publish(b"", b"nowhere")) + frame(2, 1, content(4)) + frame(3, 1, b"lost")
+        begun = frame(1, 1, publish(queue.encode())) + frame(2, 1, content(1_000_000)) + frame(3, 1, bytes(60_000))
+        client.sendall(lost + begun)
+        says("proxy: a close waits for the rest of a content", True, is_quiet(client, 1))
+        client.sendall(b"".join(frame(3, 1, bytes(94_000)) for _ in range(10)))
         until(client, b"\0\x3c\0\x28")
-        client.sendall(frame(1, 1, b"\0\x14\0\x29"))
-        declare = b"\0\x32\0\x0a\0\0" + short(b"p.middle") + b"\0\0\0\0\0"
-        client.sendall(frame(1, 2, declare))
+        client.sendall(frame(1, 1, CLOSE_OK))
+        client.sendall(frame(1, 2, b"\0\x32\0\x0a\0\0" + short(b"p.middle") + bytes(5)))
         until(client, short(b"p.middle") + bytes(8))
-        time.sleep(1)
         says("proxy: nothing of a content whose channel was closed", None, channel.basic_get(queue, auto_ack=True)[2])
         channel.queue_delete("p.middle")
-        client.sendall(frame(1, 1, b"\0\x14\0\x0a\0") + frame(1, 1, publish(queue.encode())))
+        client.sendall(frame(1, 1, OPEN) + frame(1, 1, publish(queue.encode())))
         client.sendall(frame(2, 1, content(5)) + frame(3, 1, b"again"))
         time.sleep(1)
         says("proxy: its number is used again", b"again", channel.basic_get(queue, auto_ack=True)[2])
+        connection.close()
+
+
+def closed_while_receiving():
+    """A client that closes its channel in the middle of a content that it is sent: it gets the rest, and then close-ok."""
+    body = os.urandom(20_000_000)
+    with Proxy() as proxy, socket.socket() as client:
+        client.setsockopt(socket.SOL_SOCKET, socket.SO_RCVBUF, 65_536)
+        client.settimeout(30)
+        client.connect(("127.0.0.1", proxy.port))
+        open_channels(client, b"p.receives", flags=8)
+        connection = proxy.connect()
+        connection.channel().basic_publish("", "p.receives", body)
+        consume = b"\0\x3c\0\x14\0\0" + short(b"p.receives") + short(b"") + b"\x02\0\0\0\0"
+        client.sendall(frame(1, 1, consume))
+        time.sleep(1)
+        client.sendall(frame(1, 1, CLOSE))
+        came, bodies = b"", bytearray()
+        while not came.endswith(frame(1, 1, CLOSE_OK)):
+            piece = client.recv(1_000_000)
+            if not piece:
+                break
+            came = keep_bodies(came + piece, bodies) if not piece.endswith(frame(1, 1, CLOSE_OK)) else came + piece
+        keep_bodies(came, bodies)
+        says("proxy: all of a content whose channel the client closes", True, bodies == body)
+        connection.close()
+
+
+def closed_by_the_sender():
+    """A client that closes its channel in the middle of its own content: half a content can't be ended."""
+    with Proxy() as proxy, socket.create_connection(("127.0.0.1", proxy.port), timeout=30) as client:
+        connection = proxy.connect()
+        channel = connection.channel()
+        queue = channel.queue_declare("", exclusive=True).method.queue
+        open_channels(client, b"p.sender", flags=4)
+        client.sendall(frame(1, 1, publish(queue.encode())) + frame(2, 1, content(1_000_000)))
+        client.sendall(frame(3, 1, bytes(100_000)))
+        time.sleep(1)
+        client.sendall(frame(1, 1, CLOSE))
+        until(client, b"CONNECTION_FORCED" + bytes(4))
+        says("proxy: half a content ends the connection", None, channel.basic_get(queue, auto_ack=True)[2])
         connection.close()
 
 
@@ -425,7 +492,9 @@ PARTS = {
     "large": large_content,
     "in-turn": contents_in_turn,
     "half": half_a_content,
-    "closed": closed_in_the_middle,
+    "closed": closed_by_the_receiver,
+    "receiving": closed_while_receiving,
+    "sender": closed_by_the_sender,
     "flow": flow,
     "logins": refused_logins,
     "gone": broker_that_hangs_up,

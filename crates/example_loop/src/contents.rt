@@ -1,4 +1,4 @@
-//! Contents in parts: small ones are gathered as they come, and sent once they are whole.
+//! Contents in parts: gathered as they come, and sent once they are whole or as they come.
 ghost use Rattle.std.specs.Prelude.{◌≡◌, ◌≢◌, None, true, IfOk, OnErr, OnOk};
 ghost use Rattle.amqp_core.specs.Faults.Numbers.{refusal_view};
 ghost use Rattle.amqp_method.specs.HeaderRefView.{lent_header};
@@ -8,11 +8,8 @@ ghost use Rattle.example_loop.specs.Gathering.{begun, content_there, gathered, l
 
 use crate::streaming::Streaming;
 use amqp_core::{AskFault, Chunks, Role, StreamEnd};
-use amqp_method::{Carrier, Header, HeaderRef, MethodRef};
+use amqp_method::{Carrier, Header, HeaderRef, Method, MethodRef};
 use std::alloc::Global;
-
-/// A longer body is passed on as it comes.
-const LARGE: u64 = 65_536;
 
 /// A content that is whole. Each part of its body is let go as it is sent, so that no body is in memory twice.
 #[derive(Drop)]
@@ -25,7 +22,9 @@ pub struct Content {
 impl Content {
     /// About how many octets it takes.
     pub fn octets(&self) -> usize {
-        self.body.len()
+        let properties = spread(self.header.properties.header_length());
+        let rest = octets_of(self.method.method()).saturating_add(properties);
+        rest.saturating_add(self.body.len())
     }
 
     /// Sends it on a channel. A content that is refused stays as it was.
@@ -103,26 +102,24 @@ impl Coming {
         Ok(self.finish(whole))
     }
 
-    /// Begins to send what is there of a large content, which goes on as its body comes, and is no longer kept here. What
-    /// can't begin yet is kept, and so is a small content until it is whole.
+    /// Begins to send a content that isn't whole, on a channel, from one of this number at the other side. It goes on as
+    /// its body comes, and is no longer kept here. One that can't begin yet is kept.
     pub fn pass_on<R: Role>(
         &mut self,
         alloc: Global,
         end: &mut Streaming<R>,
         channel: u16,
+        source: u16,
     ) -> anyhow::Result<()> {
         let Some(content) = &mut self.content else {
             return Ok(());
         };
-        let Header {
-            body_size,
-            properties,
-        } = &content.header;
-        if *body_size <= LARGE {
+        let header = &content.header;
+        if header.body_size == 0 {
             return Ok(());
         }
-        let method = content.method.method();
-        let Ok(()) = end.begin(channel, method, properties, *body_size) else {
+        let (method, properties) = (content.method.method(), &header.properties);
+        let Ok(()) = end.begin(channel, source, method, properties, header.body_size) else {
             return Ok(());
         };
         let mut body = Vec::new(alloc);
@@ -171,4 +168,14 @@ pub fn may_go_later(fault: AskFault) -> bool
         AskFault::NotOpen | AskFault::NotRunning => true,
         _ => false,
     }
+}
+
+/// About how many octets a method takes.
+pub fn octets_of(method: &Method) -> usize {
+    spread(method.payload_length()).saturating_add(256)
+}
+
+/// A table takes about sixteen times the memory that it takes in a frame.
+fn spread(octets: u64) -> usize {
+    usize::try_from(octets.saturating_mul(16)).unwrap_or(usize::MAX)
 }

@@ -11,7 +11,7 @@ mod running;
 mod sockets;
 mod streaming;
 
-pub use crate::contents::{Coming, Content, may_go_later};
+pub use crate::contents::{Coming, Content, may_go_later, octets_of};
 pub use crate::ends::AnyEnd;
 pub use crate::hello::{ABILITIES, client_end, server_end, word_after};
 pub use crate::link::{FULL, Heard, Link, MOST};

@@ -183,7 +183,6 @@ impl<R: Role> Link<Streaming<R>> {
         };
         let taken = step.octets;
         let about = self.end.inner.closed_for().and_then(Cause::kind);
-        self.end.cut_off();
         match self.end.inner.event(step) {
             Some(event) => {
                 let number = number_of(event);

@@ -1,21 +1,18 @@
-//! An end that sends large contents as their bodies come.
+//! An end that sends contents as their bodies come.
 use crate::ends::AnyEnd;
 use crate::link::FULL;
-use amqp_core::{AskFault, BodyFault, BodyWriter, ChannelState, LendFault, Phase, Role, StreamEnd};
+use amqp_core::{AskFault, BodyFault, BodyWriter, LendFault, Phase, Role, StreamEnd};
 use amqp_method::{Method, Properties};
 use mio::net::TcpStream;
 use std::alloc::Global;
-use std::io::{self, ErrorKind, Write};
-
-/// What fills up a body that won't come.
-const FILLING: &[u8] = &[0; 16_384];
+use std::io::{self, Write};
 
 /// A content whose body is still to come, in part.
 #[derive(Drop)]
 struct UnderWay {
     writer: BodyWriter,
-    /// None: its channel was closed, so that nothing more comes.
-    channel: Option<u16>,
+    /// The channel of the other side from which it comes.
+    source: u16,
 }
 
 /// An end that lends, and may send one content at a time before its body is there. What it puts meanwhile waits.
@@ -42,17 +39,9 @@ impl<R: Role> Streaming<R> {
         }
     }
 
-    /// Whether a content is under way.
-    pub fn is_busy(&self) -> bool {
-        self.under_way.is_some()
-    }
-
-    /// Whether it is one of this channel.
-    pub fn is_on(&self, channel: u16) -> bool {
-        match &self.under_way {
-            Some(content) => content.channel == Some(channel),
-            None => false,
-        }
+    /// The channel of the other side from which a content comes that is under way.
+    pub fn source(&self) -> Option<u16> {
+        self.under_way.as_ref().map(|content| content.source)
     }
 
     /// What waits of such contents for the socket.
@@ -60,21 +49,21 @@ impl<R: Role> Streaming<R> {
         self.ahead.get(self.gone..).unwrap_or_default()
     }
 
-    /// Begins a content whose body has so many octets.
+    /// Begins a content from a channel of the other side, whose body has so many octets.
     pub fn begin(
         &mut self,
         channel: u16,
+        source: u16,
         method: &Method,
         properties: &Properties,
         size: u64,
     ) -> Result<(), LendFault> {
-        if self.is_busy() {
+        if self.under_way.is_some() {
             return Err(LendFault::Waits);
         }
         let end = &mut self.inner;
         let writer = end.begin_content(channel, method, properties, size, &mut self.ahead)?;
-        let channel = Some(channel);
-        self.under_way = Some(UnderWay { writer, channel });
+        self.under_way = Some(UnderWay { writer, source });
         self.finish();
         Ok(())
     }
@@ -96,45 +85,16 @@ impl<R: Role> Streaming<R> {
         }
     }
 
-    /// Notes whether the peer has closed the channel of the content that is under way: then it discards the rest, which
-    /// is filled up, since what follows waits for its end.
-    pub fn cut_off(&mut self) {
-        if let Some(content) = &mut self.under_way
-            && let Some(channel) = content.channel
-            && self.inner.channel_state(channel) == ChannelState::Free
-        {
-            content.channel = None;
-        }
-    }
-
-    fn is_cut_off(&self) -> bool {
-        match &self.under_way {
-            Some(content) => content.channel.is_none(),
-            None => false,
-        }
-    }
-
-    /// Fills up what is left of a body that was cut off, some octets at a time.
-    fn fill_up(&mut self) -> io::Result<()> {
-        let left = self
-            .under_way
-            .as_ref()
-            .map_or(0, |content| content.writer.left());
-        let count = left.min(FILLING.len() as u64) as usize;
-        self.pass(&FILLING[..count])
-            .map_err(|_| io::Error::from(ErrorKind::OutOfMemory))
-    }
-
-    /// Lets go what was written.
+    /// Lets go what was written. No octet is moved more than once on the whole.
     fn let_go(&mut self, count: usize) {
         self.gone = self.ahead.len().min(self.gone.saturating_add(count));
         let left = self.ahead().len();
-        if left == 0 || self.gone > FULL {
+        if left == 0 || (self.gone > FULL && self.gone >= left) {
             self.ahead.copy_within(self.gone.., 0);
             self.ahead.truncate(left);
             self.gone = 0;
         }
-        if left == 0 && !self.is_busy() {
+        if left == 0 && self.under_way.is_none() {
             self.ahead.shrink_to(0);
         }
     }
@@ -146,19 +106,16 @@ impl<R: Role> AnyEnd for Streaming<R> {
     }
 
     fn has_output(&self) -> bool {
-        let has_next = !self.is_busy() && !self.inner.output().is_empty();
-        has_next || !self.ahead().is_empty() || self.is_cut_off()
+        let has_next = self.under_way.is_none() && !self.inner.output().is_empty();
+        has_next || !self.ahead().is_empty()
     }
 
     fn write_to(&mut self, stream: &mut TcpStream) -> io::Result<()> {
-        if self.ahead().is_empty() && self.is_cut_off() {
-            self.fill_up()?;
-        }
         let count = if !self.ahead().is_empty() {
             let count = stream.write(self.ahead())?;
             self.let_go(count);
             count
-        } else if !self.is_busy() {
+        } else if self.under_way.is_none() {
             let count = stream.write(self.inner.output())?;
             self.inner.wrote(count);
             count
@@ -173,7 +130,11 @@ impl<R: Role> AnyEnd for Streaming<R> {
         self.inner.heartbeat()
     }
 
+    /// While a content is under way none goes out.
     fn beat(&mut self) -> Result<(), AskFault> {
+        if self.under_way.is_some() {
+            return Ok(());
+        }
         self.inner.beat()
     }
 

@@ -1,20 +1,21 @@
-//! What one side of a relay asks of the other: what an event there asks for, and how an end is asked it.
-ghost use Rattle.std.specs.Prelude.{◌≡◌, IfOk, OnErr, OnOk};
+//! What one side of a relay asks of the other: what an event there asks for, and the channels on which asks wait.
+ghost use Rattle.std.specs.Prelude.{◌≡◌, ◌+◌, ◌++◌, ◌∷◌, [], Some, None, length, true, false, IfOk, OnErr, OnOk};
 ghost use Rattle.amqp_method.specs.MethodRefView.{lent_call};
 ghost use Rattle.amqp_core.specs.Asks.View.{ask_view};
 ghost use Rattle.amqp_core.specs.Stream.Asks.{StreamAsked};
 ghost use Rattle.amqp_core.specs.Stream.EventRefView.{event_ref_view};
 ghost use Rattle.example_loop.specs.Gathering.{content_there, gathered};
+ghost use Rattle.example_proxy.specs.Advancing.{Advances, Rests, partner_after};
 ghost use Rattle.example_proxy.specs.AskingView.{ask_there, asking_view, closes};
 ghost use Rattle.example_proxy.specs.Passing.{after, asked, method_alone, sent};
 
 use amqp_core::{Ask, AskFault, EventRef, Role, StreamEnd};
 use amqp_method::{Kind, Message, MethodRef, reply};
 use amqp_value::ShortStr;
-use example_loop::{Coming, Content, Heard};
-use std::alloc::Global;
+use example_loop::{Coming, Content, Heard, may_go_later, octets_of};
+use std::alloc::{AllocError, Global};
+use std::collections::VecDeque;
 
-/// An ask that is passed on.
 #[derive(Drop)]
 pub enum Asking {
     /// Of a close: with the kind of the method that it is about, if it names one.
@@ -26,6 +27,14 @@ pub enum Asking {
 pub type Asked = anyhow::Result<Option<Asking>>;
 
 impl Asking {
+    pub fn octets(&self) -> usize {
+        match self {
+            Asking::Plain(Ask::Send(_, message), _) => octets_of(message.method()),
+            Asking::Plain(_, _) => 512,
+            Asking::Content(_, content) => content.octets(),
+        }
+    }
+
     pub fn closes(&self) -> bool
         ensures { result ≡ closes (asking_view self.now) }
     {
@@ -106,4 +115,78 @@ fn sent(partner: u16, content: Option<Content>) -> Asked
     ensures { IfOk result (λ ask. ask_there ask ≡ sent partner (content_there content)) }
 {
     Ok(content.map(|content| Asking::Content(partner, content)))
+}
+
+/// A channel of one side. Number 0 stands for the connection.
+#[derive(Drop)]
+pub struct Channel {
+    /// its number at the other side, until either is to be closed
+    pub partner: Option<u16>,
+    /// the content that is coming on it
+    pub coming: Coming,
+    /// what its end is still to be asked, the oldest first: it isn't open yet, is paused, or owes a reply
+    pub waiting: VecDeque<Asking>,
+}
+
+impl Channel {
+    ghost use Rattle.example_proxy.specs.ChannelView.{standing, waiting_in};
+
+    pub fn new(alloc: Global, partner: u16) -> Channel
+        ensures partner { result.partner ≡ Some partner }
+        ensures empty { waiting_in result ≡ [] }
+    {
+        Channel {
+            partner: Some(partner),
+            coming: Coming::new(),
+            waiting: VecDeque::new(alloc),
+        }
+    }
+
+    /// Puts an ask after those that wait. With a close the channel loses its partner.
+    pub fn push(&mut self, asking: Asking) -> Result<(), AllocError>
+        ensures last { OnOk result (waiting_in self.new ≡ waiting_in self.old ++ asking_view asking ∷ []) }
+        ensures partner { OnOk result (self.new.partner ≡ partner_after (asking_view asking) self.old.partner) }
+    {
+        let closes = asking.closes();
+        self.waiting.push_back(asking)?;
+        if closes {
+            self.partner = None;
+        }
+        Ok(())
+    }
+
+    pub fn octets(&self) -> usize {
+        let octets = self.waiting.iter().map(Asking::octets);
+        octets.fold(0, usize::saturating_add)
+    }
+
+    /// Asks what waits, in order, until the end refuses an ask for now or none is left.
+    pub fn advance<R: Role>(&mut self, end: &mut StreamEnd<R>) -> Result<(), AskFault>
+        ensures advances { Advances (standing self.old end.old) (standing self.new end.new) }
+        ensures rests { OnOk result (Rests (standing self.new end.new)) }
+    {
+        'asks: while self.ask_next(end)? {}
+        Ok(())
+    }
+
+    /// Asks the oldest, if there is one and it may go now, and answers whether it did.
+    fn ask_next<R: Role>(&mut self, end: &mut StreamEnd<R>) -> Result<bool, AskFault>
+        ensures advances { Advances (standing self.old end.old) (standing self.new end.new) }
+        ensures one { IfOk result (λ went. went ≡ true → 1 + length (waiting_in self.new)
+            ≡ length (waiting_in self.old)) }
+        ensures rests { IfOk result (λ went. went ≡ false → Rests (standing self.new end.new)) }
+    {
+        let Some(mut next) = self.waiting.pop_front() else {
+            return Ok(false);
+        };
+        let Err(fault) = next.put(end) else {
+            return Ok(true);
+        };
+        self.waiting.push_front_reserved(next);
+        if may_go_later(fault) {
+            Ok(false)
+        } else {
+            Err(fault)
+        }
+    }
 }

@@ -2,7 +2,6 @@
 #![tactic(auto)]
 
 mod asking;
-mod channel;
 mod peer;
 
 use crate::peer::{Done, Peer};
@@ -58,26 +57,28 @@ impl Relay {
 
     /// Reads each side once, passes on what came, and writes what the sockets take. What can't be passed on ends both.
     fn turn(&mut self, rt: &impl Print, ticks: bool, room: &mut [u8]) {
-        let waits = self.client.octets().saturating_add(self.broker.octets());
-        if self.pass_on(rt, room).is_err() || waits > MOST {
-            self.client.fail();
-            self.broker.fail();
-        }
+        let has_failed = self.pass_on(rt, ticks, room).is_err();
         let (client, broker) = (&mut self.client, &mut self.broker);
-        client.link.settle(ticks);
-        broker.link.settle(ticks);
-        client.link.is_held = broker.is_full();
-        broker.link.is_held = client.is_full();
+        if has_failed || client.octets(broker).saturating_add(broker.octets(client)) > MOST {
+            client.fail();
+            broker.fail();
+        }
+        client.link.is_held = broker.is_full(client);
+        broker.link.is_held = client.is_full(broker);
     }
 
-    /// What the client said before it left is told to the broker before that is closed.
-    fn pass_on(&mut self, rt: &impl Print, room: &mut [u8]) -> Done {
+    /// What the client said before it left is told to the broker before that is closed, unless half a content is out.
+    fn pass_on(&mut self, rt: &impl Print, ticks: bool, room: &mut [u8]) -> Done {
         let (client, broker) = (&mut self.client, &mut self.broker);
         client.pull(rt, broker, room)?;
         broker.pull(rt, client, room)?;
         client.answer(broker.link.end.inner.phase() == Phase::Running);
-        client.advance(true)?;
-        broker.advance(false)
+        client.advance(true, broker.link.end.source())?;
+        broker.advance(false, client.link.end.source())?;
+        client.link.settle(ticks);
+        broker.link.settle(ticks);
+        client.begin(broker)?;
+        broker.begin(client)
     }
 }
 

@@ -1,13 +1,12 @@
 //! One side of a relay, the client or the broker: its end with its socket, and its channels.
 ghost use Rattle.std.specs.Prelude.{◌≤◌, IfOk, IfSome, length};
 
-use crate::asking::{Asking, asked_by};
-use crate::channel::Channel;
+use crate::asking::{Asking, Channel, asked_by};
 use amqp_core::{Ask, EventRef, Role, StreamEnd};
 use amqp_method::reply;
 use amqp_value::ShortStr;
 use anyhow::Result;
-use example_loop::{Coming, FULL, Heard, Link, Streaming};
+use example_loop::{FULL, Heard, Link, Streaming};
 use mio::net::TcpStream;
 use std::alloc::Global;
 use std::collections::BTreeMap;
@@ -18,7 +17,6 @@ pub type Done = Result<()>;
 pub struct Peer<R: Role> {
     alloc: Global,
     pub link: Link<Streaming<R>>,
-    /// By their numbers, with number 0, which stands for the connection.
     channels: BTreeMap<u16, Channel>,
     log: bool,
 }
@@ -35,20 +33,25 @@ impl<R: Role> Peer<R> {
         })
     }
 
-    /// About how many octets wait for it, or are gathered of what it says.
-    pub fn octets(&self) -> usize {
+    /// About how many octets wait for it, or are gathered for it at the other side.
+    pub fn octets<P: Role>(&self, from: &Peer<P>) -> usize {
         let end = &self.link.end;
         let mut octets = end.inner.waiting_in_all().saturating_add(end.ahead().len());
         for channel in self.channels.values() {
             octets = octets.saturating_add(channel.octets());
         }
+        for channel in from.channels.values() {
+            octets = octets.saturating_add(channel.coming.octets());
+        }
         octets
     }
 
     /// Whether so much waits for it that the other side is not read, which has the rest of a content that goes out.
-    pub fn is_full(&self) -> bool {
-        let (ahead, all) = (self.link.end.ahead().len(), self.octets());
-        let octets = if self.link.end.is_busy() { ahead } else { all };
+    pub fn is_full<P: Role>(&self, from: &Peer<P>) -> bool {
+        let octets = match self.link.end.source() {
+            Some(_) => self.link.end.ahead().len(),
+            None => self.octets(from),
+        };
         octets > FULL && !self.link.is_over()
     }
 
@@ -91,9 +94,14 @@ impl<R: Role> Peer<R> {
 
     /// What is said on a channel of the other side is passed on to this. One that opens there gets a partner here.
     fn hear_of(&mut self, channels: &mut BTreeMap<u16, Channel>, heard: &Heard<'_>) -> Done {
+        let is_source = self.link.end.source() == Some(heard.number);
         if let Some(channel) = channels.get_mut(&heard.number) {
-            if let Some(partner) = channel.partner {
-                self.pass_on(&mut channel.coming, partner, heard)?;
+            if is_source && let EventRef::Part(_, part, _) = heard.event {
+                self.link.end.pass(part)?;
+            } else if let Some(partner) = channel.partner
+                && let Some(asking) = asked_by(self.alloc, &mut channel.coming, partner, heard)?
+            {
+                self.push(partner, asking)?;
             }
         } else if let EventRef::Opened(number) = heard.event {
             let partner = self.link.end.inner.open_channel()?;
@@ -102,30 +110,29 @@ impl<R: Role> Peer<R> {
                 .insert(partner, Channel::new(self.alloc, number))?;
         }
         if let EventRef::ChannelClosed(number, _) | EventRef::Discarded(number) = heard.event {
+            self.link.is_gone |= is_source;
             channels.remove(&number);
         }
         Ok(())
     }
 
-    /// Octets of a content that is under way go out. What else is said is asked for, or begins a content.
-    fn pass_on(&mut self, coming: &mut Coming, number: u16, heard: &Heard<'_>) -> Done {
-        if let EventRef::Part(_, part, _) = heard.event
-            && self.link.end.is_on(number)
-        {
-            self.link.end.pass(part)?;
-        } else if let Some(asking) = asked_by(self.alloc, coming, number, heard)? {
-            self.push(number, asking)?;
-        } else if let Some(channel) = self.channels.get(&number)
-            && channel.waiting.is_empty()
-        {
-            coming.pass_on(self.alloc, &mut self.link.end, number)?;
+    /// Begins a content of the other side that isn't whole, where nothing is before it.
+    pub fn begin<P: Role>(&mut self, from: &mut Peer<P>) -> Done {
+        for (number, channel) in &mut from.channels {
+            if let Some(partner) = channel.partner
+                && let Some(own) = self.channels.get(&partner)
+                && own.waiting.is_empty()
+            {
+                let end = &mut self.link.end;
+                channel.coming.pass_on(self.alloc, end, partner, *number)?;
+            }
         }
         Ok(())
     }
 
     /// Asks something on a channel, after what waits there. After a close nothing is; amid a content it ends the link.
     fn push(&mut self, number: u16, asking: Asking) -> Done {
-        self.link.is_gone |= number == 0 && asking.closes() && self.link.end.is_busy();
+        self.link.is_gone |= number == 0 && asking.closes() && self.link.end.source().is_some();
         if let Some(channel) = self.channels.get_mut(&number)
             && channel.partner.is_some()
             && !self.link.is_over()
@@ -135,11 +142,12 @@ impl<R: Role> Peer<R> {
         Ok(())
     }
 
-    /// Asks what waits on the channels, then what is for the connection: that at once, or once nothing else is left.
-    pub fn advance(&mut self, at_once: bool) -> Done {
-        let mut is_left = false;
+    /// Asks what waits on the channels, then what is for the connection: that at once, or once nothing else is left. On
+    /// the source of a content that is under way all waits, a close above all.
+    pub fn advance(&mut self, at_once: bool, source: Option<u16>) -> Done {
+        let mut is_left = source.is_some();
         for (number, channel) in self.channels.iter_mut().rev() {
-            if *number > 0 || at_once || !is_left {
+            if source != Some(*number) && (*number > 0 || at_once || !is_left) {
                 channel.advance(&mut self.link.end.inner)?;
                 is_left |= !channel.waiting.is_empty();
             }
@@ -147,7 +155,6 @@ impl<R: Role> Peer<R> {
         Ok(())
     }
 
-    /// Closes the connection, unless it is to be closed already.
     pub fn close(&mut self, code: u16, text: &str) -> Done {
         let text = ShortStr::text(self.alloc, text)?;
         self.push(0, Asking::Plain(Ask::Close(code, text), None))
@@ -157,7 +164,7 @@ impl<R: Role> Peer<R> {
     pub fn fail(&mut self) {
         self.channels.retain(|number, _| *number == 0);
         drop(self.close(reply::INTERNAL_ERROR, "INTERNAL_ERROR"));
-        drop(self.advance(true));
+        drop(self.advance(true, None));
     }
 
     /// Answers a client that logs in. It is let in once the broker has let in the proxy, and refused where it won't.

@@ -1,7 +1,7 @@
 -- Each turn of the loop asks one more, and the last none.
 use Rattle.example_proxy.specs.Advancing.{none_sent}
 use Rattle.example_proxy.proofs.AdvanceLemmas.{advances_on}
-use Rattle.example_proxy.proofs.channel.Channel.advance.Goals as goal
+use Rattle.example_proxy.proofs.asking.Channel.advance.Goals as goal
 
 pub asks-init : goal.asks-init
 asks-init g c = none_sent

@@ -1,7 +1,7 @@
 use Rattle.std.proofs.Common.{length}
 use Rattle.example_proxy.specs.Advancing.{Advances}
 use Rattle.example_proxy.specs.ChannelView.{standing, waiting_in}
-use Rattle.example_proxy.proofs.channel.Channel.advance.Given as goal
+use Rattle.example_proxy.proofs.asking.Channel.advance.Given as goal
 
 -- so far asks were accepted, each the oldest of those that waited
 abbrev pub invariant-asks : goal.invariant-asks

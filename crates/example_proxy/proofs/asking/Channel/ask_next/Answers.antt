@@ -5,7 +5,7 @@ use Rattle.example_proxy.specs.Advancing.{none_sent, Advances, Rests}
 use Rattle.example_proxy.specs.AskingView.{asking_view}
 use Rattle.example_proxy.specs.ChannelView.{standing}
 use Rattle.example_proxy.proofs.AdvanceLemmas.{same_standing, put_back, asked_err, rests_first, refused_for, sends_one}
-use Rattle.example_proxy.proofs.channel.Channel.ask_next.Goals as goal
+use Rattle.example_proxy.proofs.asking.Channel.ask_next.Goals as goal
 
 pub returns-in_default-clause-advances : goal.returns-in_default-clause-advances
 returns-in_default-clause-advances g c =
