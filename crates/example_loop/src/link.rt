@@ -170,6 +170,14 @@ impl Heard<'_> {
 }
 
 impl<R: Role> Link<Streaming<R>> {
+    /// The channel of the other side from which a content comes that is under way, unless the peer is gone.
+    pub fn source(&self) -> Option<u16> {
+        if self.is_gone {
+            return None;
+        }
+        self.end.source()
+    }
+
     /// Takes octets up to the end of a frame, and answers how many, and what the frame says, if it is whole. None: all
     /// octets are taken, or the end takes no more.
     pub fn hear_ref<'a>(&'a mut self, octets: &'a [u8]) -> Option<(usize, Option<Heard<'a>>)>

@@ -20,7 +20,6 @@ use std::collections::VecDeque;
 pub enum Asking {
     /// Of a close: with the kind of the method that it is about, if it names one.
     Plain(Ask, Option<Kind>),
-    /// A content is sent on a channel.
     Content(u16, Content),
 }
 
@@ -122,7 +121,6 @@ fn sent(partner: u16, content: Option<Content>) -> Asked
 pub struct Channel {
     /// its number at the other side, until either is to be closed
     pub partner: Option<u16>,
-    /// the content that is coming on it
     pub coming: Coming,
     /// what its end is still to be asked, the oldest first: it isn't open yet, is paused, or owes a reply
     pub waiting: VecDeque<Asking>,
@@ -160,22 +158,25 @@ impl Channel {
         octets.fold(0, usize::saturating_add)
     }
 
-    /// Asks what waits, in order, until the end refuses an ask for now or none is left.
-    pub fn advance<R: Role>(&mut self, end: &mut StreamEnd<R>) -> Result<(), AskFault>
+    /// Asks what waits, in order, until the end refuses an ask for now or none is left; a close only if it may go.
+    pub fn advance<R: Role>(&mut self, end: &mut StreamEnd<R>, closes: bool) -> Result<(), AskFault>
         ensures advances { Advances (standing self.old end.old) (standing self.new end.new) }
-        ensures rests { OnOk result (Rests (standing self.new end.new)) }
+        ensures rests { closes ≡ true → OnOk result (Rests (standing self.new end.new)) }
     {
-        'asks: while self.ask_next(end)? {}
+        'asks: while self.ask_next(end, closes)? {}
         Ok(())
     }
 
     /// Asks the oldest, if there is one and it may go now, and answers whether it did.
-    fn ask_next<R: Role>(&mut self, end: &mut StreamEnd<R>) -> Result<bool, AskFault>
+    fn ask_next<R: Role>(&mut self, end: &mut StreamEnd<R>, closes: bool) -> Result<bool, AskFault>
         ensures advances { Advances (standing self.old end.old) (standing self.new end.new) }
         ensures one { IfOk result (λ went. went ≡ true → 1 + length (waiting_in self.new)
             ≡ length (waiting_in self.old)) }
-        ensures rests { IfOk result (λ went. went ≡ false → Rests (standing self.new end.new)) }
+        ensures rests { closes ≡ true → IfOk result (λ went. went ≡ false → Rests (standing self.new end.new)) }
     {
+        if !closes && self.waiting.front().is_some_and(Asking::closes) {
+            return Ok(false);
+        }
         let Some(mut next) = self.waiting.pop_front() else {
             return Ok(false);
         };

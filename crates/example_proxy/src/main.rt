@@ -43,7 +43,6 @@ fn main(rt: HostRuntime) -> anyhow::Result<ExitCode> {
     Ok(ExitCode::SUCCESS)
 }
 
-/// A client, and the connection to the broker that was made for it.
 #[derive(Drop)]
 struct Relay {
     client: Peer<Server>,
@@ -73,8 +72,8 @@ impl Relay {
         client.pull(rt, broker, room)?;
         broker.pull(rt, client, room)?;
         client.answer(broker.link.end.inner.phase() == Phase::Running);
-        client.advance(true, broker.link.end.source())?;
-        broker.advance(false, client.link.end.source())?;
+        client.advance(true, broker.link.source())?;
+        broker.advance(false, client.link.source())?;
         client.link.settle(ticks);
         broker.link.settle(ticks);
         client.begin(broker)?;
@@ -98,7 +97,6 @@ impl Program for Relays<'_> {
         self.relays.values().any(Relay::has_work)
     }
 
-    /// A client is let in once the broker has let in the proxy.
     fn add(&mut self, to: &impl Connect, number: usize, stream: TcpStream) -> Done {
         let alloc = self.alloc;
         let client = server_end(alloc, "example_proxy", ABILITIES)?.into_stream();

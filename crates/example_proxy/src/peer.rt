@@ -48,7 +48,7 @@ impl<R: Role> Peer<R> {
 
     /// Whether so much waits for it that the other side is not read, which has the rest of a content that goes out.
     pub fn is_full<P: Role>(&self, from: &Peer<P>) -> bool {
-        let octets = match self.link.end.source() {
+        let octets = match self.link.source() {
             Some(_) => self.link.end.ahead().len(),
             None => self.octets(from),
         };
@@ -94,7 +94,7 @@ impl<R: Role> Peer<R> {
 
     /// What is said on a channel of the other side is passed on to this. One that opens there gets a partner here.
     fn hear_of(&mut self, channels: &mut BTreeMap<u16, Channel>, heard: &Heard<'_>) -> Done {
-        let is_source = self.link.end.source() == Some(heard.number);
+        let is_source = self.link.source() == Some(heard.number);
         if let Some(channel) = channels.get_mut(&heard.number) {
             if is_source && let EventRef::Part(_, part, _) = heard.event {
                 self.link.end.pass(part)?;
@@ -123,8 +123,9 @@ impl<R: Role> Peer<R> {
                 && let Some(own) = self.channels.get(&partner)
                 && own.waiting.is_empty()
             {
-                let end = &mut self.link.end;
-                channel.coming.pass_on(self.alloc, end, partner, *number)?;
+                channel
+                    .coming
+                    .pass_on(self.alloc, &mut self.link.end, partner, *number)?;
             }
         }
         Ok(())
@@ -132,7 +133,7 @@ impl<R: Role> Peer<R> {
 
     /// Asks something on a channel, after what waits there. After a close nothing is; amid a content it ends the link.
     fn push(&mut self, number: u16, asking: Asking) -> Done {
-        self.link.is_gone |= number == 0 && asking.closes() && self.link.end.source().is_some();
+        self.link.is_gone |= number == 0 && asking.closes() && self.link.source().is_some();
         if let Some(channel) = self.channels.get_mut(&number)
             && channel.partner.is_some()
             && !self.link.is_over()
@@ -142,13 +143,13 @@ impl<R: Role> Peer<R> {
         Ok(())
     }
 
-    /// Asks what waits on the channels, then what is for the connection: that at once, or once nothing else is left. On
-    /// the source of a content that is under way all waits, a close above all.
+    /// Asks what waits on the channels, then what is for the connection: that at once, or once nothing else is left. A
+    /// close waits on the channel from which a content goes out.
     pub fn advance(&mut self, at_once: bool, source: Option<u16>) -> Done {
         let mut is_left = source.is_some();
         for (number, channel) in self.channels.iter_mut().rev() {
-            if source != Some(*number) && (*number > 0 || at_once || !is_left) {
-                channel.advance(&mut self.link.end.inner)?;
+            if *number > 0 || at_once || !is_left {
+                channel.advance(&mut self.link.end.inner, source != Some(*number))?;
                 is_left |= !channel.waiting.is_empty();
             }
         }

@@ -7,6 +7,9 @@ use Rattle.example_proxy.specs.ChannelView.{standing}
 use Rattle.example_proxy.proofs.AdvanceLemmas.{same_standing, put_back, asked_err, rests_first, refused_for, sends_one}
 use Rattle.example_proxy.proofs.asking.Channel.ask_next.Goals as goal
 
+pub returns-then-is_some_and-clause-advances : goal.returns-then-is_some_and-clause-advances
+returns-then-is_some_and-clause-advances g c = none_sent
+
 pub returns-in_default-clause-advances : goal.returns-in_default-clause-advances
 returns-in_default-clause-advances g c =
     let before = standing c.args.self.now c.args.end.now in
@@ -27,7 +30,7 @@ returns-then-may_go_later-clause-advances g c =
     (back ∙ ap (map asking_view) (sym c.push_front_reserved.ensures.items)) (asked_err c.put.result c.in-Err.fault _ c.in-Err.is c.put.ensures.asked.refused).same) none_sent
 
 pub returns-then-may_go_later-clause-rests : goal.returns-then-may_go_later-clause-rests
-returns-then-may_go_later-clause-rests g c = λ _.
+returns-then-may_go_later-clause-rests g c = λ _ _.
     let before = standing c.args.self.now c.args.end.now in
     let rest = c.pop_front.new.self.items in
     let back = put_back asking_view c.args.self.now.waiting.items rest c.in-Some.next c.put.new.self c.in-Some.ensures.items c.in-Err.ensures.kept in
