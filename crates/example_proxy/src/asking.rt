@@ -140,16 +140,16 @@ impl Channel {
         }
     }
 
-    /// Puts an ask after those that wait. With a close the channel loses its partner.
+    /// Puts an ask after those that wait. With a close the channel loses its partner, and what is gathered of it.
     pub fn push(&mut self, asking: Asking) -> Result<(), AllocError>
         ensures last { OnOk result (waiting_in self.new ≡ waiting_in self.old ++ asking_view asking ∷ []) }
         ensures partner { OnOk result (self.new.partner ≡ partner_after (asking_view asking) self.old.partner) }
     {
-        let closes = asking.closes();
-        self.waiting.push_back(asking)?;
-        if closes {
+        if asking.closes() {
             self.partner = None;
+            self.coming = Coming::new();
         }
+        self.waiting.push_back(asking)?;
         Ok(())
     }
 
