@@ -163,7 +163,7 @@ impl Connection {
     }
 
     /// Sends a method and the header of its content on a channel, whose body of so many octets is still to come: they go
-    /// to `octets`, and nothing is put.
+    /// to `octets`, and nothing goes to the outbox.
     pub(crate) fn begin_content(
         &mut self,
         number: u16,

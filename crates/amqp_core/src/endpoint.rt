@@ -530,8 +530,8 @@ impl Endpoint {
         }
     }
 
-    /// A method and its content whose body of so many octets is still to come: it is refused, or its frames are put, and
-    /// written at once as far as the body is concerned. Nothing waits before.
+    /// A method and its content whose body of so many octets is still to come: it is refused, or its frames count as put
+    /// and as written at once. Nothing may wait before.
     pub(crate) fn begin_content(
         &mut self,
         number: u16,

@@ -170,7 +170,7 @@ impl AskFault {
     }
 }
 
-/// Why no content is lent. Nothing changes then.
+/// Why no content is lent or begun. Nothing changes then.
 #[derive(Clone, Copy, PartialEq, Eq, Debug, Error)]
 pub enum LendFault {
     /// The content is refused, as it is where it is sent.

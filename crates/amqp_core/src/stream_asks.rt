@@ -410,10 +410,11 @@ impl<R: Role> StreamEnd<R> {
     /// by the writer that is answered, as its octets come:
     ///
     ///     let mut writer = end.begin_content(channel, &method, &properties, size, &mut octets)?;
+    ///     socket.write_all(&octets)?;
     ///     while writer.left() > 0 {
+    ///         octets.clear();
     ///         writer.write(source.next_part()?, &mut octets)?;
     ///         socket.write_all(&octets)?;
-    ///         octets.clear();
     ///     }
     ///
     /// So a body of any length goes out through a small buffer. All its frames count as put and as written, so the caller
