@@ -5,6 +5,7 @@ pub mod PlaceLemmas
 pub mod PutLemmas
 pub mod FreeLemmas
 pub mod LentLemmas
+pub mod OneWayLemmas
 pub mod UnderWayLemmas
 pub mod SumLemmas
 pub mod HeaderLemmas

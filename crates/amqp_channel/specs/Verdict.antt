@@ -2,3 +2,4 @@
 pub mod Leaving
 pub mod VerdictView
 pub mod LentView
+pub mod Passing

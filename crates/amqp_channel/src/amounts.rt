@@ -57,6 +57,7 @@ impl Amounts {
     }
 
     /// The sums where so much was kept of one content, and so much is kept now.
+    #[inline(always)]
     pub(crate) fn after(self, before: Amount, left: Amount) -> Amounts
         requires { IsPartOf self before }
         ensures { ChangesBy before left self result }
@@ -73,6 +74,7 @@ impl Amounts {
 
 impl Life {
     /// How much is kept of the content under way.
+    #[inline(always)]
     fn amount(&self) -> Amount
         ensures header { result.header ≡ header_octets (gathering_view self.now.content) }
         ensures body { result.body ≡ length (kept (gathering_view self.now.content)) }
@@ -86,6 +88,7 @@ impl Life {
 
 impl Channel {
     /// How much is kept of the content under way: of one that is lent nothing is.
+    #[inline(always)]
     pub(crate) fn amount(&self) -> Amount
         ensures header { result.header ≡ header_octets_on (gathered_view self.now) }
         ensures body { result.body ≡ body_octets_on (gathered_view self.now) }

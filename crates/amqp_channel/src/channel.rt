@@ -8,7 +8,7 @@
 //!
 //! The rules only look. What a frame changes is done after, by what it tells: by an end that gathers contents, or by
 //! one that lends them as they come.
-ghost use Rattle.std.specs.Prelude.{◌≡◌, ◌<◌, ◌≤◌, ◌==◌, true, false, ℕ, List, IfOk, IsOk, MatchOption, OnOk, OnErr};
+ghost use Rattle.std.specs.Prelude.{◌≡◌, ◌<◌, ◌≤◌, ◌==◌, true, false, ℕ, List, IfOk, IfSome, IsOk, None, MatchOption, OnOk, OnErr};
 ghost use Rattle.amqp_method.specs.HeaderRefView.{lent_header};
 ghost use Rattle.amqp_method.specs.MethodRefView.{lent_call};
 ghost use Rattle.amqp_method.specs.MethodView.{method_view};
@@ -18,7 +18,9 @@ ghost use Rattle.amqp_model.specs.End.Channels.{Closing, Free, Open, Opening, ne
 ghost use Rattle.amqp_model.specs.End.FrameVerdict.{is_gathering};
 ghost use Rattle.amqp_model.specs.Lent.Streaming.{streamed};
 ghost use Rattle.amqp_model.specs.Wire.Frame.{Frame};
-ghost use Rattle.amqp_model.specs.Wire.Notes.{Role};
+ghost use Rattle.amqp_model.specs.Wire.Methods.{is_reply};
+ghost use Rattle.amqp_model.specs.Wire.Notes.{Client, Role};
+ghost use Rattle.amqp_channel.specs.declared.verdict.Verdict.TheVariants.{Proceeds};
 ghost use Rattle.amqp_model.specs.Wire.Readings as readings;
 ghost use Rattle.amqp_model.specs.Wire.Readings.{BodyOf, Calls, HeaderOf, MalformedHeader, kind_of};
 ghost use Rattle.amqp_channel.specs.Channel.ChannelView.{channel_view, is_lent, IsFree, IsOpen, content_on};
@@ -28,6 +30,7 @@ ghost use Rattle.amqp_channel.specs.Contents.GatheringView.{progress_view};
 ghost use Rattle.amqp_channel.specs.ReadingView.{reading_view, unread_view};
 ghost use Rattle.amqp_channel.specs.Roles.{role_of};
 ghost use Rattle.amqp_channel.specs.Channels.Used.{is_closing_at, is_open_at};
+ghost use Rattle.amqp_channel.specs.Verdict.Passing.{IsOfContent, Passes};
 ghost use Rattle.amqp_channel.specs.Verdict.VerdictView.{goes_on, handed_out, left_by, told_on, whole_now, whole_of, Drops, Fits, FitsTold, IsDiscarded, IsPart, Rules, RulesByState, SentOnChannel};
 
 use crate::codes::CloseCode;
@@ -69,7 +72,6 @@ impl Channel {
     ghost use Rattle.amqp_model.specs.End.Events.{Message, method_of};
     ghost use Rattle.amqp_model.specs.History.Histories.{PutHere};
     ghost use Rattle.amqp_model.specs.End.Machine.{channel_after};
-    ghost use Rattle.amqp_model.specs.Wire.Notes.{Client};
     ghost use Rattle.amqp_method.specs.MethodView.{method_view};
     ghost use Rattle.amqp_model.specs.End.Asks.{message_payloads};
     ghost use Rattle.amqp_channel.specs.Channels.Payloads.{after_payloads};
@@ -239,7 +241,108 @@ fn judge_inside(site: Site, method: MethodRef<'_>) -> Verdict
     Verdict::Faults(CloseCode::UnexpectedFrame)
 }
 
+/// What a frame of a content tells that has this verdict, where the content answers no request with it.
+#[inline(always)]
+fn passes_content(side: Side, kind: Kind, verdict: Verdict) -> Option<Told>
+    ensures verdict { IfSome result (λ told. verdict ≡ Proceeds told None) }
+    ensures content { IfSome result IsOfContent }
+    ensures completes { IfSome result (λ told. told ≡ Told.Completed → role_of side ≡ Client
+        → is_reply kind ≡ false) }
+{
+    match verdict {
+        Verdict::Proceeds(Told::Completed, None) => {
+            if side.is_client() && kind.is_reply() {
+                return None;
+            }
+            Some(Told::Completed)
+        }
+        Verdict::Proceeds(Told::Headed, None) => Some(Told::Headed),
+        Verdict::Proceeds(Told::Continued, None) => Some(Told::Continued),
+        Verdict::Proceeds(_, _) => None,
+        Verdict::RefusesContent => None,
+        Verdict::Faults(_) => None,
+    }
+}
+
 impl Channel {
+    /// The header of a content that is lent, where nothing changes beside the content.
+    #[inline(always)]
+    fn passes_header(&self, site: Site, header: HeaderRef<'_>) -> Option<Told>
+        requires above { 0 < site.number }
+        requires within { site.number ≤ site.channel_max }
+        ensures { IfSome result (Passes site (channel_view self.now)
+            (HeaderOf (lent_header header.entry).body_size (lent_header header.entry).properties)) }
+    {
+        match self {
+            Channel::LentHeader(kind, _) => {
+                passes_content(site.side, *kind, judge_awaited(site, header))
+            }
+            Channel::Free
+            | Channel::Opening
+            | Channel::Closing
+            | Channel::Open(_)
+            | Channel::LentBody { .. } => None,
+        }
+    }
+
+    /// A part of the body of a content that is lent, where nothing changes beside the content.
+    #[inline(always)]
+    fn passes_body(&self, site: Site, octets: &[u8]) -> Option<Told>
+        requires above { 0 < site.number }
+        requires within { site.number ≤ site.channel_max }
+        ensures { IfSome result (Passes site (channel_view self.now) (BodyOf octets.now)) }
+    {
+        match self {
+            Channel::LentBody {
+                kind,
+                size,
+                came,
+                ..
+            } => passes_content(site.side, *kind, judge_part(site, *size, *came, octets)),
+            Channel::Free
+            | Channel::Opening
+            | Channel::Closing
+            | Channel::Open(_)
+            | Channel::LentHeader(_, _) => None,
+        }
+    }
+
+    /// A method that has nothing to do with requests, where no content is under way.
+    #[inline(always)]
+    fn passes_method(&self, site: Site, method: MethodRef<'_>) -> Option<Told>
+        requires above { 0 < site.number }
+        requires within { site.number ≤ site.channel_max }
+        ensures { IfSome result (Passes site (channel_view self.now) (Calls (lent_call method.entry))) }
+    {
+        match self {
+            Channel::Open(life) => life.passes(site, method),
+            Channel::Free
+            | Channel::Opening
+            | Channel::Closing
+            | Channel::LentHeader(_, _)
+            | Channel::LentBody { .. } => None,
+        }
+    }
+
+    /// What a frame tells that changes at most how far a content that is lent has come: a method that has nothing to do
+    /// with requests, or a frame of the content under way. Most frames do no more.
+    #[inline(always)]
+    pub(crate) fn passes(&self, site: Site, reading: Reading<'_>) -> Option<Told>
+        requires above { 0 < site.number }
+        requires within { site.number ≤ site.channel_max }
+        ensures { IfSome result (Passes site (channel_view self.now) (reading_view reading.entry)) }
+    {
+        match reading {
+            Reading::Method(method) => self.passes_method(site, method),
+            Reading::Header(header) => self.passes_header(site, header),
+            Reading::Body(octets) => self.passes_body(site, octets),
+            Reading::UnknownMethod => None,
+            Reading::MalformedMethod => None,
+            Reading::MalformedHeader => None,
+            Reading::Heartbeat(_) => None,
+        }
+    }
+
     /// A method, by the state of the channel.
     ///
     /// What a call out of line answers is bound before it is answered: the call writes it to a place of its own, and what

@@ -35,6 +35,7 @@ pub(crate) enum Filling {
 }
 
 /// How so many octets and so many more fill a body of a size.
+#[inline(always)]
 pub(crate) fn fill(size: u64, came: u64, more: usize) -> Filling
     ensures filling { result ≡ filling_of size (came + more) }
     ensures short { result ≡ Short → came + more < size }

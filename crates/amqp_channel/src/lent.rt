@@ -83,7 +83,7 @@ impl Channel {
     /// content of three frames a fifth of its time.
     #[inline(always)]
     #[tactic(auto, using(crate::proofs::LentLemmas::as_known, crate::proofs::LentLemmas::known_so_far))]
-    fn advance(&mut self, reading: Reading<'_>, told: Told)
+    pub(crate) fn advance(&mut self, reading: Reading<'_>, told: Told)
         requires { FitsProgress (reading_view reading) told (streamed (content_on (channel_view self.old))) }
         ensures { channel_view self.new ≡ known_on
             (progress_with (reading_view reading.entry) told (streamed (content_on (channel_view self.old))))

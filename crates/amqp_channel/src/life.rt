@@ -1,6 +1,6 @@
 //! The life of a channel that is Open: what is kept of it, what the rules say of the frames that belong to it, and what these
 //! leave.
-ghost use Rattle.std.specs.Prelude.{◌≡◌, ◌≢◌, ◌<◌, ◌≤◌, true, ℕ, List, length, None, Some, IfOk, IsOk, OnOk, OnErr};
+ghost use Rattle.std.specs.Prelude.{◌≡◌, ◌≢◌, ◌<◌, ◌≤◌, true, not, ℕ, List, length, None, Some, IfOk, IfSome, IsOk, OnOk, OnErr};
 ghost use Rattle.amqp_method.specs.HeaderRefView.{lent_header};
 ghost use Rattle.amqp_method.specs.MethodRefView.{lent_call};
 ghost use Rattle.amqp_model.specs.End.Amounts.{header_octets};
@@ -10,7 +10,9 @@ ghost use Rattle.amqp_model.specs.End.FrameVerdict.{on_message};
 ghost use Rattle.amqp_model.specs.Wire.Gathering.{BodyDue, HeaderDue};
 ghost use Rattle.amqp_model.specs.Wire.Methods as methods;
 ghost use Rattle.amqp_model.specs.Wire.Methods.{carries_content as content_follows};
-ghost use Rattle.amqp_model.specs.Wire.Notes.{Client, Server};
+ghost use Rattle.amqp_method.specs.Requests.{is_one_way};
+ghost use Rattle.amqp_model.specs.Wire.Notes.{Client, Server, is_client};
+ghost use Rattle.amqp_channel.specs.declared.verdict.Verdict.TheVariants.{Proceeds};
 ghost use Rattle.amqp_model.specs.Wire.Readings as readings;
 ghost use Rattle.amqp_model.specs.Wire.Readings.{Calls, BodyOf, HeaderOf, kind_of};
 ghost use Rattle.amqp_channel.specs.Contents.ContentView.{content_there, content_view};
@@ -75,6 +77,7 @@ fn tell_message(method: MethodRef<'_>) -> Verdict
 }
 
 /// A header that is due.
+#[inline(always)]
 pub(crate) fn judge_awaited(site: Site, header: HeaderRef<'_>) -> Verdict
     requires above { 0 < site.number }
     requires within { site.number ≤ site.channel_max }
@@ -91,6 +94,7 @@ pub(crate) fn judge_awaited(site: Site, header: HeaderRef<'_>) -> Verdict
 }
 
 /// A part of a body of this size, of which so many octets have come.
+#[inline(always)]
 pub(crate) fn judge_part(site: Site, size: u64, came: u64, octets: &[u8]) -> Verdict
     requires above { 0 < site.number }
     requires within { site.number ≤ site.channel_max }
@@ -144,6 +148,38 @@ impl Life {
         match site.side {
             Side::Client => self.judge_reply(method),
             Side::Server => self.judge_request(method),
+        }
+    }
+
+    /// A method that has nothing to do with requests, where no content is under way.
+    #[inline(always)]
+    #[tactic(auto, using(crate::proofs::OneWayLemmas::is_other, crate::proofs::OneWayLemmas::unmatched, crate::proofs::VerdictLemmas::message_rules))]
+    fn judge_one_way(&self, site: Site, method: MethodRef<'_>) -> Verdict
+        requires idle { IsIdle self.now }
+        requires one_way { is_one_way (not (is_client (role_of site.side))) (lent_call method).kind ≡ true }
+        ensures rules { RulesByState site (Open (life_view self.now)) (lent_call method.entry) result }
+        ensures tells { TellsMessage (lent_call method.entry) result }
+    {
+        tell_message(method)
+    }
+
+    /// What a method tells that has nothing to do with requests, where no content is under way: a publish or an ack.
+    #[inline(always)]
+    pub(crate) fn passes(&self, site: Site, method: MethodRef<'_>) -> Option<Told>
+        ensures rules { IfSome result (λ told. RulesByState site (Open (life_view self.now)) (lent_call method.entry)
+            (Proceeds told None)) }
+        ensures tells { IfSome result (λ told. TellsMessage (lent_call method.entry) (Proceeds told None)) }
+        ensures one_way { IfSome result (λ told. is_one_way (not (is_client (role_of site.side)))
+            (lent_call method.entry).kind ≡ true) }
+    {
+        if self.content.is_under_way() || !method.kind().is_one_way(!site.side.is_client()) {
+            return None;
+        }
+        match self.judge_one_way(site, method) {
+            Verdict::Proceeds(told, None) => Some(told),
+            Verdict::Proceeds(_, Some(_)) => None,
+            Verdict::RefusesContent => None,
+            Verdict::Faults(_) => None,
         }
     }
 

@@ -38,6 +38,7 @@ pub mod AskLemmas
 pub mod AccountLemmas
 pub mod BlameLemmas
 pub mod StreamLemmas
+pub mod WholeLemmas
 pub mod GrowthLemmas
 pub mod LifeCountLemmas
 pub mod TraceLemmas

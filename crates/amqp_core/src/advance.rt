@@ -1,6 +1,6 @@
 //! A piece that is taken by an end whose events lend.
-ghost use Rattle.std.specs.Prelude.{◌≡◌, ◌≢◌, ◌<◌, ◌≤◌, length, true, false, [], Some, None, IfOk, IsOk};
-ghost use Rattle.amqp_frame.specs.Frame.{lent};
+ghost use Rattle.std.specs.Prelude.{◌≡◌, ◌≢◌, ◌<◌, ◌≤◌, length, true, false, [], Option, Some, None, IfOk, IfSome, IsOk, OnErr};
+ghost use Rattle.amqp_frame.specs.Frame.{lent, frame_length, Frame};
 ghost use Rattle.amqp_model.specs.Stream.Endpoint.{after_feed, awaits_opening};
 ghost use Rattle.amqp_model.specs.Stream.Pieces.{reads_frames};
 ghost use Rattle.amqp_model.specs.End.EndVerdict.{takes_octets};
@@ -12,16 +12,17 @@ ghost use Rattle.amqp_core.specs.Heard.View.{heard_view};
 ghost use Rattle.amqp_core.specs.Config.Settings.{config_view};
 ghost use Rattle.amqp_core.specs.Connection.Stages.{phase_at};
 ghost use Rattle.amqp_core.specs.Stream.Lending.{IsLent};
-ghost use Rattle.amqp_core.specs.Stream.StepView.{step_seen};
+ghost use Rattle.amqp_core.specs.Stream.StepView.{came_lent, passed, step_seen};
+ghost use Rattle.amqp_core.specs.declared.stage.Stage.{Stage};
 
 use crate::account::Account;
 use crate::blame::Rule;
 use crate::endpoint::{Endpoint, tune};
 use crate::faults::CoreFault;
 use crate::heard::Heard;
-use crate::step::{Lying, Step, step_heard, step_of};
-use amqp_channel::Reading;
-use amqp_frame::{FrameRef, Place, Splitter, faults_are_judged, one_frame_at_start};
+use crate::step::{Step, step_buffered, step_heard, step_of, step_told};
+use amqp_channel::{Agreed, Reading};
+use amqp_frame::{FrameRef, OVERHEAD, Place, Splitter, faults_are_judged, one_frame_at_start};
 use amqp_model::{bounds, fitting, octets, pieces};
 
 /// The frame that was given by way of the buffer.
@@ -36,7 +37,23 @@ fn buffered_frame(splitter: &Splitter) -> FrameRef<'_>
 }
 
 impl Endpoint {
+    ghost use Rattle.amqp_channel.specs.Channels.ChannelsView.{channels_view};
+    ghost use Rattle.amqp_channel.specs.ReadingView.{reading_view};
+    ghost use Rattle.amqp_core.specs.Connection.Dropping.{IsDropped};
+    ghost use Rattle.amqp_core.specs.Config.Settings.{role_for};
+    ghost use Rattle.amqp_core.specs.Connection.View.{connection_end};
     ghost use Rattle.amqp_core.specs.End.EndpointView.{endpoint_view, role_at, EndpointIsSound};
+    ghost use Rattle.amqp_core.specs.Faults.Answering.{answer_with, AnswersFrame, PutsAs};
+    ghost use Rattle.amqp_core.specs.Faults.Blamed.{blames_frame, code_found};
+    ghost use Rattle.amqp_core.specs.Heard.View.{said_after};
+    ghost use Rattle.amqp_core.specs.Stream.Lending.{EndsAlike};
+    ghost use Rattle.amqp_model.specs.End.EndVerdict.{end_puts, end_verdict, facts_at};
+    ghost use Rattle.amqp_model.specs.End.Machine.{end_after_taken};
+    ghost use Rattle.amqp_model.specs.Laws.OctetLaws.{event_of_frame};
+    ghost use Rattle.amqp_model.specs.Lent.Alike.{lent as lent_of, maybe_telling};
+    ghost use Rattle.amqp_model.specs.Output.Outputs.{after_puts};
+    ghost use Rattle.amqp_model.specs.Stream.Endpoint.{outcome_of};
+    ghost use Rattle.amqp_model.specs.Wire.Readings.{reading as says};
 
     /// Octets of the protocol header, at a server that awaits it.
     #[inline(never)]
@@ -61,9 +78,9 @@ impl Endpoint {
         step_heard(answer, account)
     }
 
-    /// Octets of frames.
-    #[inline(always)]
-    fn read_lent<'a>(&mut self, piece: &'a [u8], heard: &mut Heard) -> Result<Step<'a>, CoreFault>
+    /// Octets of frames, whatever they are.
+    #[inline(never)]
+    fn read_any<'a>(&mut self, piece: &'a [u8], heard: &mut Heard) -> Result<Step<'a>, CoreFault>
         requires sound { EndpointIsSound self.old }
         requires lends { self.old.connection.settings.lends ≡ true }
         requires reads { reads_frames (role_at self.old) (phase_at self.old.connection.stage) ≡ true }
@@ -115,7 +132,7 @@ impl Endpoint {
                     .connection
                     .receive_lent(&mut self.outbox, frame, reading, &mut self.tally, heard);
                 tune(&mut self.splitter, self.connection.stage);
-                step_of(octets, frame.channel, Lying::Piece(reading), answer)
+                step_of(octets, frame.channel, reading, answer)
             }
             Place::Buffer => {
                 let frame = buffered_frame(&self.splitter);
@@ -125,9 +142,236 @@ impl Endpoint {
                     .connection
                     .receive_lent(&mut self.outbox, frame, reading, &mut self.tally, heard);
                 tune(&mut self.splitter, self.connection.stage);
-                step_of(octets, number, Lying::Buffer, answer)
+                step_buffered(octets, number, answer)
             }
         }
+    }
+
+    /// A frame that lies whole in the piece and says this, if it passes. Otherwise nothing is done.
+    #[inline(always)]
+    fn pass_whole<'a>(
+        &mut self,
+        agreed: Agreed,
+        frame: FrameRef<'a>,
+        reading: Reading<'a>,
+        heard: &mut Heard,
+    ) -> Option<Step<'a>>
+        requires lends { self.old.connection.settings.lends ≡ true }
+        requires running { self.old.connection.stage ≡ Stage.Running agreed }
+        requires staged { self.old.outbox.staged ≡ [] }
+        requires says { reading_view reading ≡ says (lent frame) }
+        ensures said { IfSome result (λ step. AnswersFrame
+            (answer_with (passed step) (event_of_frame (config_view self.old.connection.settings)
+            (connection_end self.old.connection) (lent frame.entry)))
+            (outcome_of (facts_at (config_view self.old.connection.settings)
+            (connection_end self.old.connection) (lent frame.entry).channel)
+            (end_verdict (config_view self.old.connection.settings) (connection_end self.old.connection)
+            (lent frame.entry)))) }
+        ensures octets { IfSome result (λ step. step.octets ≡ frame_length (lent frame.entry)) }
+        ensures told { IfSome result (λ step. (given : Option Frame) → came_lent step.came given
+            ≡ lent_of (lent frame.entry).channel (says (lent frame.entry))
+            (maybe_telling (event_of_frame (config_view self.old.connection.settings)
+            (connection_end self.old.connection) (lent frame.entry)))) }
+        ensures end { IfSome result (λ step. EndsAlike (passed step) (connection_end self.old.connection)
+            (end_after_taken (role_for self.old.connection.settings) (config_view self.old.connection.settings)
+            (connection_end self.old.connection) (says (lent frame.entry)) (lent frame.entry))
+            (connection_end self.new.connection)) }
+        ensures output { IfSome result (λ step. PutsAs (passed step) self.old.outbox.output
+            (after_puts (end_puts (config_view self.old.connection.settings) (connection_end self.old.connection)
+            (lent frame.entry)) self.old.outbox.output) self.new.outbox) }
+        ensures heard { IfSome result (λ step. heard_view heard.new ≡ said_after
+            (config_view self.old.connection.settings) (connection_end self.old.connection) (lent frame.entry)
+            (heard_view heard.old)) }
+        ensures tally { IfSome result (λ step. tally_view self.new.tally
+            ≡ blames_frame (code_found (passed step)) (lent frame.entry) (tally_view self.old.tally)) }
+        ensures settings { self.new.connection.settings ≡ self.old.connection.settings }
+        ensures stage { self.new.connection.stage ≡ self.old.connection.stage }
+        ensures splitter { self.new.splitter ≡ self.old.splitter }
+        ensures opening { self.new.heard ≡ self.old.heard }
+        ensures none { result ≡ None → self.new ≡ self.old }
+        ensures none_heard { result ≡ None → heard.new ≡ heard.old }
+    {
+        match self
+            .connection
+            .pass_lent(&self.outbox, agreed, frame, reading, heard)
+        {
+            Some(told) => Some(step_told(
+                frame.payload.len() + OVERHEAD,
+                frame.channel,
+                reading,
+                told,
+            )),
+            None => None,
+        }
+    }
+
+    /// A frame that lies whole in the piece and says this.
+    #[inline(always)]
+    fn take_reading<'a>(
+        &mut self,
+        agreed: Agreed,
+        frame: FrameRef<'a>,
+        reading: Reading<'a>,
+        heard: &mut Heard,
+    ) -> Result<Step<'a>, CoreFault>
+        requires lends { self.old.connection.settings.lends ≡ true }
+        requires running { self.old.connection.stage ≡ Stage.Running agreed }
+        requires staged { self.old.outbox.staged ≡ [] }
+        requires says { reading_view reading ≡ says (lent frame) }
+        ensures said { AnswersFrame
+            (answer_with result (event_of_frame (config_view self.old.connection.settings)
+            (connection_end self.old.connection) (lent frame.entry)))
+            (outcome_of (facts_at (config_view self.old.connection.settings)
+            (connection_end self.old.connection) (lent frame.entry).channel)
+            (end_verdict (config_view self.old.connection.settings) (connection_end self.old.connection)
+            (lent frame.entry))) }
+        ensures octets { IfOk result (λ step. step.octets ≡ frame_length (lent frame.entry)) }
+        ensures told { IfOk result (λ step. (given : Option Frame) → came_lent step.came given
+            ≡ lent_of (lent frame.entry).channel (says (lent frame.entry))
+            (maybe_telling (event_of_frame (config_view self.old.connection.settings)
+            (connection_end self.old.connection) (lent frame.entry)))) }
+        ensures end { EndsAlike result (connection_end self.old.connection)
+            (end_after_taken (role_for self.old.connection.settings) (config_view self.old.connection.settings)
+            (connection_end self.old.connection) (says (lent frame.entry)) (lent frame.entry))
+            (connection_end self.new.connection) }
+        ensures output { PutsAs result self.old.outbox.output
+            (after_puts (end_puts (config_view self.old.connection.settings) (connection_end self.old.connection)
+            (lent frame.entry)) self.old.outbox.output) self.new.outbox }
+        // A frame that is dropped takes no memory.
+        ensures alone { IsDropped (phase_at self.old.connection.stage) (channels_view self.old.connection.channels
+            (lent frame.entry).channel) (lent frame.entry).channel (lent frame.entry).kind (lent frame.entry).payload
+            → IsOk result }
+        ensures heard { ran_out result ≡ false → heard_view heard.new ≡ said_after
+            (config_view self.old.connection.settings) (connection_end self.old.connection) (lent frame.entry)
+            (heard_view heard.old) }
+        ensures at_fault { ran_out result ≡ false → OnErr result (heard_view heard.new ≡ heard_view heard.old) }
+        ensures tally { tally_view self.new.tally
+            ≡ blames_frame (code_found result) (lent frame.entry) (tally_view self.old.tally) }
+        ensures settings { self.new.connection.settings ≡ self.old.connection.settings }
+        ensures splitter { self.new.splitter ≡ self.old.splitter }
+        ensures opening { self.new.heard ≡ self.old.heard }
+    {
+        if let Some(step) = self.pass_whole(agreed, frame, reading, heard) {
+            return Ok(step);
+        }
+        let answer = self
+            .connection
+            .take_lent(&mut self.outbox, frame, reading, &mut self.tally, heard);
+        answer
+    }
+
+    /// A frame that lies whole in the piece.
+    ///
+    /// Each kind of frame goes its own way, so that what it says is not put into memory and looked at again: a content
+    /// takes a quarter fewer instructions so.
+    #[inline(always)]
+    fn take_frame<'a>(
+        &mut self,
+        agreed: Agreed,
+        frame: FrameRef<'a>,
+        heard: &mut Heard,
+    ) -> Result<Step<'a>, CoreFault>
+        requires lends { self.old.connection.settings.lends ≡ true }
+        requires running { self.old.connection.stage ≡ Stage.Running agreed }
+        requires staged { self.old.outbox.staged ≡ [] }
+        ensures said { AnswersFrame
+            (answer_with result (event_of_frame (config_view self.old.connection.settings)
+            (connection_end self.old.connection) (lent frame.entry)))
+            (outcome_of (facts_at (config_view self.old.connection.settings)
+            (connection_end self.old.connection) (lent frame.entry).channel)
+            (end_verdict (config_view self.old.connection.settings) (connection_end self.old.connection)
+            (lent frame.entry))) }
+        ensures octets { IfOk result (λ step. step.octets ≡ frame_length (lent frame.entry)) }
+        ensures told { IfOk result (λ step. (given : Option Frame) → came_lent step.came given
+            ≡ lent_of (lent frame.entry).channel (says (lent frame.entry))
+            (maybe_telling (event_of_frame (config_view self.old.connection.settings)
+            (connection_end self.old.connection) (lent frame.entry)))) }
+        ensures end { EndsAlike result (connection_end self.old.connection)
+            (end_after_taken (role_for self.old.connection.settings) (config_view self.old.connection.settings)
+            (connection_end self.old.connection) (says (lent frame.entry)) (lent frame.entry))
+            (connection_end self.new.connection) }
+        ensures output { PutsAs result self.old.outbox.output
+            (after_puts (end_puts (config_view self.old.connection.settings) (connection_end self.old.connection)
+            (lent frame.entry)) self.old.outbox.output) self.new.outbox }
+        // A frame that is dropped takes no memory.
+        ensures alone { IsDropped (phase_at self.old.connection.stage) (channels_view self.old.connection.channels
+            (lent frame.entry).channel) (lent frame.entry).channel (lent frame.entry).kind (lent frame.entry).payload
+            → IsOk result }
+        ensures heard { ran_out result ≡ false → heard_view heard.new ≡ said_after
+            (config_view self.old.connection.settings) (connection_end self.old.connection) (lent frame.entry)
+            (heard_view heard.old) }
+        ensures at_fault { ran_out result ≡ false → OnErr result (heard_view heard.new ≡ heard_view heard.old) }
+        ensures tally { tally_view self.new.tally
+            ≡ blames_frame (code_found result) (lent frame.entry) (tally_view self.old.tally) }
+        ensures settings { self.new.connection.settings ≡ self.old.connection.settings }
+        ensures splitter { self.new.splitter ≡ self.old.splitter }
+        ensures opening { self.new.heard ≡ self.old.heard }
+    {
+        let reading = Reading::of(frame);
+        match reading {
+            Reading::Method(method) => {
+                self.take_reading(agreed, frame, Reading::Method(method), heard)
+            }
+            Reading::Header(header) => {
+                self.take_reading(agreed, frame, Reading::Header(header), heard)
+            }
+            Reading::Body(part) => self.take_reading(agreed, frame, Reading::Body(part), heard),
+            Reading::UnknownMethod
+            | Reading::MalformedMethod
+            | Reading::MalformedHeader
+            | Reading::Heartbeat(_) => {
+                let answer = self
+                    .connection
+                    .take_lent(&mut self.outbox, frame, reading, &mut self.tally, heard);
+                answer
+            }
+        }
+    }
+
+    /// Octets of frames, on a connection that is Running.
+    #[inline(always)]
+    fn read_lent<'a>(
+        &mut self,
+        piece: &'a [u8],
+        agreed: Agreed,
+        heard: &mut Heard,
+    ) -> Result<Step<'a>, CoreFault>
+        requires sound { EndpointIsSound self.old }
+        requires lends { self.old.connection.settings.lends ≡ true }
+        requires running { self.old.connection.stage ≡ Stage.Running agreed }
+        ensures lent { IsLent (role_at self.old) (config_view self.old.connection.settings)
+            (step_seen result self.new.splitter.given)
+            (endpoint_view self.old) piece.now
+            (after_feed (role_at self.old) (config_view self.old.connection.settings)
+            (endpoint_view self.old) piece.now)
+            (endpoint_view self.new) }
+        // A frame that is dropped takes no memory, where it lies whole in the piece.
+        ensures in_place { DropsInPlace (role_at self.old) (endpoint_view self.old) piece.now → IsOk result }
+        ensures heard { Hears (role_at self.old) (config_view self.old.connection.settings) result
+            (endpoint_view self.old) piece.now (after_feed (role_at self.old) (config_view self.old.connection.settings)
+            (endpoint_view self.old) piece.now) (heard_view heard.old) (heard_view heard.new) }
+        ensures sound { EndpointIsSound self.new }
+        ensures settings { self.new.connection.settings ≡ self.old.connection.settings }
+        ensures tally { Blames (role_at self.old) result (endpoint_view self.old) piece.now
+            (after_feed (role_at self.old) (config_view self.old.connection.settings) (endpoint_view self.old)
+            piece.now)
+            (tally_view self.old.tally) (tally_view self.new.tally) }
+    {
+        pieces::pieces_are_split();
+        pieces::unfinished_is_held();
+        fitting::agreed_is_within();
+        bounds::ends_are_bounded();
+        one_frame_at_start();
+        octets::judged_is_said();
+        faults_are_judged();
+        let Some(frame) = self.splitter.take_whole(piece) else {
+            let answer = self.read_any(piece, heard);
+            return answer;
+        };
+        self.tally.count(frame.payload.len() + OVERHEAD);
+        let answer = self.take_frame(agreed, frame, heard);
+        tune(&mut self.splitter, self.connection.stage);
+        answer
     }
 
     /// Takes octets up to the end of the next frame, or of the protocol header at a server that awaits it.
@@ -164,6 +408,9 @@ impl Endpoint {
             (tally_view self.old.tally) (tally_view self.new.tally) }
     {
         octets::cut_changes_nothing();
+        if let Some(agreed) = self.connection.stage.running() {
+            return self.read_lent(piece, agreed, heard);
+        }
         if self.connection.stage.is_closed() {
             return Err(CoreFault::Closed);
         }
@@ -175,6 +422,7 @@ impl Endpoint {
             let answer = self.hear_lent(piece);
             return answer;
         }
-        self.read_lent(piece, heard)
+        let answer = self.read_any(piece, heard);
+        answer
     }
 }

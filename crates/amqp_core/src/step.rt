@@ -2,13 +2,13 @@
 //!
 //! The frame lies in the piece, or in the end's own buffer. A step borrows the piece alone, so the end can be asked and
 //! written before the event is taken.
-ghost use Rattle.std.specs.Prelude.{◌≡◌, IsOk, Option};
+ghost use Rattle.std.specs.Prelude.{◌≡◌, IsOk, Ok, Option, Some};
 ghost use Rattle.amqp_frame.specs.Frame.{Frame};
 ghost use Rattle.amqp_channel.specs.Events.PartsView.{parts_there};
 ghost use Rattle.amqp_channel.specs.ReadingView.{reading_view};
 ghost use Rattle.amqp_core.specs.Faults.Answering.{ran_out};
 ghost use Rattle.amqp_core.specs.Faults.Blamed.{code_found};
-ghost use Rattle.amqp_core.specs.Stream.StepView.{came_lent, heard_seen, quiet_there, read_at, seen_by, step_seen};
+ghost use Rattle.amqp_core.specs.Stream.StepView.{came_lent, heard_seen, quiet_there, read_in, seen_by, step_seen};
 ghost use Rattle.amqp_core.specs.Stream.EventRefView.{channel_lent, event_ref_there, notice_lent, report_lent};
 
 use crate::account::Account;
@@ -26,21 +26,13 @@ pub(crate) enum Report {
     OfConnection(Notice),
 }
 
-/// Where the frame lies of which something is told.
+/// What a frame tells.
 #[derive(Clone, Copy)]
-pub(crate) enum Lying<'a> {
-    /// In the piece, which says this.
-    Piece(Reading<'a>),
-    /// In the end's buffer.
-    Buffer,
-}
-
-/// What a frame tells, and where it lies.
-#[derive(Clone, Copy)]
-pub(crate) struct Came<'a> {
-    pub(crate) number: u16,
-    pub(crate) lying: Lying<'a>,
-    pub(crate) report: Report,
+pub(crate) enum Came<'a> {
+    /// The frame lies in the piece, and this is its event.
+    Told(EventRef<'a>),
+    /// It lies in the end's buffer, and this is told of it on its channel.
+    Buffered(u16, Report),
 }
 
 /// What came of a piece: how many of its octets were taken, and what the frame tells that the last of them ends.
@@ -104,16 +96,60 @@ pub(crate) fn lend_report<'a>(
     }
 }
 
-/// What came of a frame of this channel, which lies there and has this answer.
+/// The event of a frame, if it is there, as what came.
 #[inline(always)]
+fn came_of<'a>(event: Option<EventRef<'a>>) -> Option<Came<'a>>
+    ensures { (given : Option Frame) → came_lent result given ≡ event_ref_there event.entry }
+{
+    match event {
+        Some(event) => Some(Came::Told(event)),
+        None => None,
+    }
+}
+
+/// What came of a frame of this channel in the piece, which says this and has this answer.
 pub(crate) fn step_of<'a>(
     octets: usize,
     number: u16,
-    lying: Lying<'a>,
+    reading: Reading<'a>,
     answer: Result<Report, CoreFault>,
 ) -> Result<Step<'a>, CoreFault>
     ensures seen { (given : Option Frame) → step_seen result given ≡ seen_by answer octets number
-        (read_at lying.entry given) }
+        (Some (reading_view reading.entry)) }
+    ensures ok { IsOk answer → IsOk result }
+    ensures code { code_found result ≡ code_found answer }
+    ensures memory { ran_out result ≡ ran_out answer }
+{
+    match answer {
+        Ok(report) => Ok(step_reported(octets, number, reading, report)),
+        Err(fault) => Err(fault),
+    }
+}
+
+/// What came of a frame of this channel in the piece, which says this and of which this is told.
+pub(crate) fn step_reported<'a>(
+    octets: usize,
+    number: u16,
+    reading: Reading<'a>,
+    report: Report,
+) -> Step<'a>
+    ensures octets { result.octets ≡ octets }
+    ensures came { (given : Option Frame) → came_lent result.came given
+        ≡ report_lent number (reading_view reading.entry) report }
+{
+    Step {
+        octets,
+        came: came_of(lend_report(number, reading, report)),
+    }
+}
+
+/// What came of a frame of this channel in the end's buffer, which has this answer.
+pub(crate) fn step_buffered<'a>(
+    octets: usize,
+    number: u16,
+    answer: Result<Report, CoreFault>,
+) -> Result<Step<'a>, CoreFault>
+    ensures seen { (given : Option Frame) → step_seen result given ≡ seen_by answer octets number (read_in given) }
     ensures ok { IsOk answer → IsOk result }
     ensures code { code_found result ≡ code_found answer }
     ensures memory { ran_out result ≡ ran_out answer }
@@ -121,13 +157,27 @@ pub(crate) fn step_of<'a>(
     match answer {
         Ok(report) => Ok(Step {
             octets,
-            came: Some(Came {
-                number,
-                lying,
-                report,
-            }),
+            came: Some(Came::Buffered(number, report)),
         }),
         Err(fault) => Err(fault),
+    }
+}
+
+/// The same of a frame that passes: what is told of it is told of its channel.
+#[inline(always)]
+pub(crate) fn step_told<'a>(
+    octets: usize,
+    number: u16,
+    reading: Reading<'a>,
+    told: Told,
+) -> Step<'a>
+    ensures octets { result.octets ≡ octets }
+    ensures came { (given : Option Frame) → came_lent result.came given
+        ≡ channel_lent number (reading_view reading.entry) told }
+{
+    Step {
+        octets,
+        came: came_of(lend_told(number, reading, told)),
     }
 }
 
@@ -141,11 +191,7 @@ fn quiet_step<'a>(octets: usize, parts: Option<EventParts>) -> Step<'a>
     };
     Step {
         octets,
-        came: Some(Came {
-            number: 0,
-            lying: Lying::Piece(Reading::Heartbeat(&[])),
-            report: Report::OfConnection(Notice::Quiet),
-        }),
+        came: Some(Came::Told(EventRef::Quiet)),
     }
 }
 

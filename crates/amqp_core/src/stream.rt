@@ -8,7 +8,7 @@ ghost use Rattle.amqp_core.specs.End.Counters.{counted_in};
 ghost use Rattle.amqp_core.specs.End.EndpointView.{role_at};
 ghost use Rattle.amqp_core.specs.Stream.EventRefView.{event_ref_there};
 ghost use Rattle.amqp_core.specs.End.Kept.{IsKept, agreed_prop};
-ghost use Rattle.amqp_core.specs.Stream.StepView.{came_lent, step_seen};
+ghost use Rattle.amqp_core.specs.Stream.StepView.{came_lent, read_in, step_seen, told_of};
 
 use crate::asks::{Ask, LentAsk};
 use crate::endpoint::Endpoint;
@@ -17,7 +17,7 @@ use crate::faults::{AskFault, CoreFault};
 use crate::heard::Heard;
 use crate::roles::Role;
 use crate::stage::Phase;
-use crate::step::{Lying, Step, lend_report};
+use crate::step::{Came, Report, Step, lend_report};
 use crate::taken::TakenRef;
 use amqp_channel::{Agreed, ChannelState, Reading};
 use amqp_method::{Kind, Message};
@@ -114,13 +114,18 @@ impl<R: Role> StreamEnd<R> {
     pub fn event<'a>(&'a self, step: Step<'a>) -> Option<EventRef<'a>>
         ensures { event_ref_there result ≡ came_lent step.entry.came (given_in self.now) }
     {
-        let came = step.came?;
-        match came.lying {
-            Lying::Piece(reading) => lend_report(came.number, reading, came.report),
-            Lying::Buffer => {
-                let frame = self.inner.splitter.buffered()?;
-                lend_report(came.number, Reading::of(frame), came.report)
-            }
+        match step.came? {
+            Came::Told(event) => Some(event),
+            Came::Buffered(number, report) => self.buffered_event(number, report),
         }
+    }
+
+    /// The event of the frame in the end's buffer. It stands apart, since most frames lie in the piece.
+    #[inline(never)]
+    fn buffered_event<'a>(&'a self, number: u16, report: Report) -> Option<EventRef<'a>>
+        ensures { event_ref_there result ≡ told_of number (read_in (given_in self.now)) report }
+    {
+        let frame = self.inner.splitter.buffered()?;
+        lend_report(number, Reading::of(frame), report)
     }
 }

@@ -10,6 +10,7 @@ use Rattle.amqp_frame.specs.contracts.splitting.Splitter.{the_row}
 use Rattle.amqp_frame.specs.declared.faults.FrameFault.{FrameFault}
 use Rattle.amqp_frame.specs.declared.faults.FrameFaultKind.{FrameFaultKind}
 use Rattle.amqp_frame.specs.declared.faults.FrameFaultKind.TheVariants.{UnknownType, TooLarge, BadEnd, OutOfMemory, Failed}
+use Rattle.amqp_frame.specs.declared.frames.FrameRef.{FrameRef}
 use Rattle.amqp_frame.specs.declared.splitting.Advanced.{Advanced}
 use Rattle.amqp_frame.specs.declared.splitting.Fed.{Fed}
 use Rattle.amqp_frame.specs.declared.splitting.FedRef.{FedRef}
@@ -117,6 +118,10 @@ OfGiven Buffer (Some f) P = P f
 abbrev pub LiesAt : (pending : List ℕ) → Place → Type 0
 LiesAt pending (Piece f) = pending ≡ []
 LiesAt pending Buffer = pending ≢ []
+
+-- a frame was taken that lies whole in the piece
+abbrev pub all_of : FrameRef → Advanced
+all_of frame = record { taken = frame_length (lent frame); place = Some (Piece frame) }
 
 -- what the splitter is once the frame that it lent is given up
 abbrev pub LeavesAfter : MutBor Stream → List ℕ → Result FedRef FrameFault → Fml

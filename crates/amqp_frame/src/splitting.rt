@@ -1,5 +1,5 @@
 //! A stream of octets, cut into pieces anywhere, split into its frames.
-ghost use Rattle.std.specs.Prelude.{◌≡◌, ◌≢◌, ◌<◌, ◌≤◌, [], length, take, None, IsOk, IfOk, IfErr, IfSome, IfNone};
+ghost use Rattle.std.specs.Prelude.{◌≡◌, ◌≢◌, ◌<◌, ◌≤◌, [], length, take, None, Ok, IsOk, IfOk, IfErr, IfSome, IfNone};
 ghost use Rattle.std.specs.Borrow.{sem};
 ghost use Rattle.amqp_frame.specs.Judging.{lent_of};
 ghost use Rattle.amqp_frame.specs.Splitter.{Completes, Waits, Faults, LacksMemoryIfNeeded, HasFrameAtStart, OfGiven, LiesAt, after_advance};
@@ -80,7 +80,7 @@ impl Splitter {
     ghost use Rattle.amqp_frame.specs.Advances.{Advances};
     ghost use Rattle.amqp_frame.specs.Beginning.{IsNewSplitter};
     ghost use Rattle.amqp_frame.specs.Feeds.{Feeds, FeedsLent};
-    ghost use Rattle.amqp_frame.specs.Splitter.{LeavesAfter};
+    ghost use Rattle.amqp_frame.specs.Splitter.{LeavesAfter, all_of};
 
     /// A splitter at the beginning of a stream. The limit counts all octets of a frame.
     pub fn new(alloc: Global, limit: u32) -> Splitter
@@ -135,6 +135,33 @@ impl Splitter {
         self.limit = limit;
     }
 
+    /// Takes a frame that lies whole at the start of the piece, where no octet of it was pending. Otherwise it takes
+    /// nothing, and the answer is `None`: [`Splitter::advance`] then says what the octets are. No memory is taken.
+    #[inline(always)]
+    pub fn take_whole<'a>(&mut self, piece: &'a [u8]) -> Option<FrameRef<'a>>
+        ensures whole { IfSome result (λ frame. Advances self.old piece.now (Ok (all_of frame)) self.new) }
+        ensures stays { IfNone result (self.new ≡ self.old) }
+        ensures none { IfNone result (self.old.fault ≡ None → self.old.pending ≡ []
+            → HasFrameAtStart self.old.limit piece.now → ⊥) }
+    {
+        if !is_between_frames(self.fault, self.held, &self.buffer) {
+            return None;
+        }
+        match judge(piece, self.limit) {
+            Judgement::Whole(frame) => {
+                let taken = frame.payload.len() + OVERHEAD;
+                self.taken = self.taken.saturating_add(taken as u64);
+                self.held = Held::Spent;
+                if self.buffer.capacity() > KEPT {
+                    self.unused = give_back(&mut self.buffer, self.unused);
+                }
+                Some(frame)
+            }
+            Judgement::Wrong(_, _) => None,
+            Judgement::Begun => None,
+        }
+    }
+
     /// Takes octets up to the end of the next frame and no further, and says where that frame lies.
     ///
     /// It lies in the piece where no octet of it was pending, and no memory is taken then. Otherwise it lies in the
@@ -144,23 +171,11 @@ impl Splitter {
     pub fn advance<'a>(&mut self, piece: &'a [u8]) -> Result<Advanced<'a>, FrameFault>
         ensures { Advances self.old piece.now result self.new }
     {
-        if is_between_frames(self.fault, self.held, &self.buffer) {
-            match judge(piece, self.limit) {
-                Judgement::Whole(frame) => {
-                    let taken = frame.payload.len() + OVERHEAD;
-                    self.taken = self.taken.saturating_add(taken as u64);
-                    self.held = Held::Spent;
-                    if self.buffer.capacity() > KEPT {
-                        self.unused = give_back(&mut self.buffer, self.unused);
-                    }
-                    return Ok(Advanced {
-                        taken,
-                        place: Some(Place::Piece(frame)),
-                    });
-                }
-                Judgement::Wrong(_, _) => {}
-                Judgement::Begun => {}
-            }
+        if let Some(frame) = self.take_whole(piece) {
+            return Ok(Advanced {
+                taken: frame.payload.len() + OVERHEAD,
+                place: Some(Place::Piece(frame)),
+            });
         }
         // Bound first, so that it has a place of its own in memory: what is answered in place stays in registers.
         let advanced = self.advance_buffer(piece);

@@ -3,7 +3,7 @@
 -- no requests.
 use Rattle.std.specs.Prelude.{Bool, true, false, not, cond, ◌&&◌, ◌||◌, ℕ, nat_lt, List, [], ◌∷◌, codes, Option, Some, None, is_some}
 use Rattle.amqp_method.specs.Arguments.{Call}
-use Rattle.amqp_method.specs.Kinds.{kinds, class_of, same_kind, fields_of}
+use Rattle.amqp_method.specs.Kinds.{kinds, class_of, same_kind, fields_of, sends}
 use Rattle.amqp_method.specs.Methods.{Wanted, Always, Never, UnlessNoWait, row}
 use Rattle.amqp_method.specs.Places.{bit_at, place_named}
 use Rattle.amqp_method.specs.declared.kinds.Kind.{Kind}
@@ -41,6 +41,18 @@ is_kind kind None = false
 -- the reply answers the request
 abbrev pub answers : (reply request : Kind) → Bool
 answers reply request = is_kind request (answered reply)
+
+-- whether the server answers no method of the kind, whatever its arguments are
+abbrev pub is_never : Wanted → Bool
+is_never Always = false
+is_never Never = true
+is_never (UnlessNoWait place) = false
+
+-- A method that the client, or the server, may send, and that has nothing to do with requests: the server answers none
+-- of its kind, or it is no reply.
+abbrev pub is_one_way : (client : Bool) → Kind → Bool
+is_one_way client kind =
+    above_channels kind && sends client kind && cond client (is_never (wants kind)) (not (is_reply kind))
 
 -- ---- what the columns of answers and of fields say of it
 

@@ -9,7 +9,7 @@ use Rattle.amqp_method.specs.declared.table.Wanted.TheVariants as code
 abbrev pub field_view : Field → FieldRow
 field_view f = record { name = f.name.now; kind = f.kind; reserved = f.reserved }
 
-abbrev wanted_view : CodeWanted → Wanted
+abbrev pub wanted_view : CodeWanted → Wanted
 wanted_view code.Always = Always
 wanted_view code.Never = Never
 wanted_view (code.UnlessNoWait place) = UnlessNoWait place

@@ -1,11 +1,11 @@
 //! Requests and replies.
 ghost use Rattle.std.specs.Prelude.{◌≡◌};
 ghost use Rattle.amqp_method.specs.MethodView.{method_view};
-ghost use Rattle.amqp_method.specs.Requests.{is_request as asks, answered, is_reply as replies, answers};
+ghost use Rattle.amqp_method.specs.Requests.{is_request as asks, answered, is_reply as replies, answers, is_one_way};
 
 use crate::kinds::Kind;
 use crate::methods::Method;
-use crate::table::Wanted;
+use crate::table::{Wanted, row_for};
 
 /// The last class whose methods have answers of their own: connection is 10, and channel is 20.
 const CHANNEL: u16 = 20;
@@ -42,6 +42,23 @@ impl Kind {
         ensures { result ≡ replies self }
     {
         self.request().is_some()
+    }
+
+    /// Whether the client may send the method, or the server, of a class above channel, and the other end answers it in
+    /// no case where the client sends it, and it answers nothing where the server does: as a publish, a deliver, an ack.
+    #[inline(always)]
+    pub fn is_one_way(self, client: bool) -> bool
+        ensures { result ≡ is_one_way client self }
+    {
+        let row = row_for(self);
+        if row.class <= CHANNEL || !row.sender.permits(client) {
+            return false;
+        }
+        if client {
+            row.wanted.is_never()
+        } else {
+            row.answers.is_none()
+        }
     }
 
     /// Whether the method answers this request.

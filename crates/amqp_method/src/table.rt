@@ -41,6 +41,23 @@ pub(crate) enum Wanted {
     UnlessNoWait(usize),
 }
 
+impl Wanted {
+    ghost use Rattle.amqp_method.specs.Requests.{is_never};
+    ghost use Rattle.amqp_method.specs.Rows.{wanted_view};
+
+    /// Whether no method with this is answered.
+    #[inline(always)]
+    pub(crate) fn is_never(self) -> bool
+        ensures { result ≡ is_never (wanted_view self) }
+    {
+        match self {
+            Wanted::Always => false,
+            Wanted::Never => true,
+            Wanted::UnlessNoWait(_) => false,
+        }
+    }
+}
+
 /// What the standard says of a method.
 pub(crate) struct Row {
     pub(crate) class: u16,

@@ -10,9 +10,12 @@ use Rattle.amqp_channel.specs.Channels.ChannelsView.{channels_view, NoneLent, On
 use Rattle.amqp_channel.specs.Contents.ContentView.{content_there}
 use Rattle.amqp_channel.specs.Roles.{role_of}
 use Rattle.amqp_channel.specs.Channels.Used.{is_closing_at}
-use Rattle.amqp_channel.specs.Verdict.VerdictView.{handed_out, left_by, Drops}
+use Rattle.amqp_channel.specs.Verdict.Passing.{Passes}
+use Rattle.amqp_channel.specs.Verdict.VerdictView.{handed_out, left_by, told_on, Drops}
 use Rattle.amqp_channel.specs.declared.channels.Channels.{Channels}
 use Rattle.amqp_channel.specs.declared.side.Side.{Side}
+use Rattle.amqp_channel.specs.declared.site.Site.{Site}
+use Rattle.amqp_channel.specs.declared.verdict.Told.{Told}
 use Rattle.amqp_channel.specs.declared.verdict.Verdict.{Verdict}
 
 -- The channel is left as the verdict leaves it, and the content that the frame makes whole is answered.
@@ -45,3 +48,15 @@ pub record AppliesLent {A : Type 0} (side : Side) (number : ℕ) (reading : Read
   pub others : OnlyAt number (channels_view old) (channels_view new)
   -- What is dropped takes no memory.
   pub drops : is_closing_at (channels_view old number) ≡ true → Drops verdict → IsOk result
+
+-- What a frame does that is done with at once, where contents are lent: the rules let it through and owe it no reply, and
+-- its channel is left alike to what that leaves.
+pub record PassesLent (site : Site) (reading : Reading) (old : Channels) (said : Told) (new : Channels) : Type 0 where
+  -- The rules let it through, and it tells of a message.
+  pub passes : Passes site (channels_view old site.number) reading said
+  -- The channel is left alike to what the frame leaves.
+  pub left :
+      AlikeChannels (told_on (role_of site.side) reading said (channels_view old site.number))
+      (channels_view new site.number)
+  -- Every other channel stays as it was.
+  pub others : OnlyAt site.number (channels_view old) (channels_view new)

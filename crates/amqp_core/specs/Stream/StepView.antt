@@ -4,14 +4,14 @@ use Rattle.amqp_frame.specs.Frame as frames
 use Rattle.amqp_model.specs.End.Events.{Event, Quiet}
 use Rattle.amqp_model.specs.Lent.Alike.{LentEvent, Other}
 use Rattle.amqp_model.specs.Wire.Readings.{Reading, reading}
-use Rattle.amqp_channel.specs.ReadingView.{reading_view}
-use Rattle.amqp_core.specs.Stream.EventRefView.{report_lent}
+use Rattle.amqp_channel.specs.declared.verdict.Told.{Told}
+use Rattle.amqp_core.specs.Stream.EventRefView.{event_ref_view, report_lent}
 use Rattle.amqp_core.specs.Stream.Lending.{LentSeen}
 use Rattle.amqp_core.specs.declared.faults.CoreFault.{CoreFault}
 use Rattle.amqp_core.specs.declared.step.Came.{Came}
-use Rattle.amqp_core.specs.declared.step.Lying.{Lying}
-use Rattle.amqp_core.specs.declared.step.Lying.TheVariants.{Piece, Buffer}
+use Rattle.amqp_core.specs.declared.step.Came.TheVariants as came
 use Rattle.amqp_core.specs.declared.step.Report.{Report}
+use Rattle.amqp_core.specs.declared.step.Report.TheVariants.{OnChannel}
 use Rattle.amqp_core.specs.declared.step.Step.{Step}
 
 -- what the frame in the buffer says
@@ -19,19 +19,19 @@ abbrev pub read_in : Option frames.Frame → Option Reading
 read_in None = None
 read_in (Some frame) = Some (reading frame)
 
--- what the frame says
-abbrev pub read_at : Lying → (given : Option frames.Frame) → Option Reading
-read_at (Piece read) given = Some (reading_view read)
-read_at Buffer given = read_in given
-
 -- the event of a frame that says this, if it is there
 abbrev pub told_of : (number : ℕ) → Option Reading → Report → Option LentEvent
 told_of number None report = None
 told_of number (Some said) report = report_lent number said report
 
+-- what came: the event of a frame in the piece, or what is told of the frame in the buffer
+abbrev lent_by : Came → (given : Option frames.Frame) → Option LentEvent
+lent_by (came.Told event) given = Some (event_ref_view event)
+lent_by (came.Buffered number report) given = told_of number (read_in given) report
+
 abbrev pub came_lent : Option Came → (given : Option frames.Frame) → Option LentEvent
 came_lent None given = None
-came_lent (Some came) given = told_of came.number (read_at came.lying given) came.report
+came_lent (Some came) given = lent_by came given
 
 -- what a step tells, with this frame in the buffer
 abbrev step_lent : Step → (given : Option frames.Frame) → LentSeen
@@ -55,3 +55,11 @@ heard_seen (Err fault) octets event = Err fault
 abbrev pub step_seen : Result Step CoreFault → (given : Option frames.Frame) → Result LentSeen CoreFault
 step_seen (Ok step) given = Ok (step_lent step given)
 step_seen (Err fault) given = Err fault
+
+-- the answer to a frame of a channel of which this is told
+abbrev pub reported : Told → Result Report CoreFault
+reported told = Ok (OnChannel told)
+
+-- the answer to a frame that passes
+abbrev pub passed : Step → Result Step CoreFault
+passed step = Ok step

@@ -1,6 +1,6 @@
 //! A frame that is taken by an end whose events lend: the same rules decide, and of a content under way only how far
 //! it has come is kept.
-ghost use Rattle.std.specs.Prelude.{◌≡◌, true, false, ℕ, [], map, Option, IfOk, IsOk, OnErr, OnOk};
+ghost use Rattle.std.specs.Prelude.{◌≡◌, ◌<◌, true, false, ℕ, [], map, None, Option, IfOk, IfSome, IsOk, OnErr, OnOk};
 ghost use Rattle.amqp_channel.specs.Channels.ChannelsView.{channels_view};
 ghost use Rattle.amqp_channel.specs.ReadingView.{reading_view};
 ghost use Rattle.amqp_model.specs.End.Channels.{Channel, End, Running};
@@ -13,6 +13,9 @@ ghost use Rattle.amqp_core.specs.Faults.Answering.{answer_with, is_out_of_memory
 ghost use Rattle.amqp_core.specs.Faults.Blamed.{blames_frame, code_by, code_found, tally_view};
 ghost use Rattle.amqp_core.specs.Connection.Dropping.{IsDropped, DropsReading};
 ghost use Rattle.amqp_core.specs.Stream.EventRefView.{report_lent};
+ghost use Rattle.amqp_core.specs.Stream.StepView.{came_lent, reported};
+ghost use Rattle.amqp_frame.specs.Frame.{Frame, frame_length};
+ghost use Rattle.amqp_channel.specs.declared.verdict.Verdict.TheVariants.{Proceeds};
 ghost use Rattle.amqp_core.specs.Heard.View.{goes_by, heard_view, said_after, said_by};
 ghost use Rattle.amqp_core.specs.Stream.Lending.{AlikeLeft};
 ghost use Rattle.amqp_core.specs.Connection.Outcomes.{SameEnd, owed_by};
@@ -20,8 +23,9 @@ ghost use Rattle.amqp_model.specs.Stream.Endpoint.{Found, fault_told, owed_at_fa
 ghost use Rattle.amqp_core.specs.Connection.Rulings.{OnChannel, OnConnection};
 ghost use Rattle.amqp_core.specs.Config.Settings.{role_for};
 ghost use Rattle.amqp_core.specs.Connection.Stages.{leaves, phase_at};
-ghost use Rattle.amqp_core.specs.Connection.Verdicts.{event_by, fault_by, outcome_with, verdict_here, verdict_view, FitsVerdict, IsLight};
+ghost use Rattle.amqp_core.specs.Connection.Verdicts.{event_by, fault_by, outcome_with, verdict_here, verdict_view, FitsVerdict, FrameRules, IsLight};
 ghost use Rattle.amqp_core.specs.declared.settings.Settings.{Settings};
+ghost use Rattle.amqp_core.specs.declared.stage.Stage.{Stage};
 
 use crate::account::Account;
 use crate::connection::Connection;
@@ -30,11 +34,11 @@ use crate::connection::receive::{fault_on, owed_on};
 use crate::connection::reply::put_owed;
 use crate::faults::{CoreFault, OutOfMemory};
 use crate::heard::Heard;
-use crate::step::Report;
+use crate::step::{Report, Step, step_reported};
 use crate::tally::Tally;
 use crate::verdict::Verdict;
-use amqp_channel::{Reading, Told, Verdict as ChannelVerdict};
-use amqp_frame::{FrameFaultKind, FrameRef};
+use amqp_channel::{Agreed, Reading, Told, Verdict as ChannelVerdict};
+use amqp_frame::{FrameFaultKind, FrameRef, OVERHEAD};
 use amqp_outbox::Outbox;
 
 /// What is told of a frame of a channel, or the fault that is found with it.
@@ -228,9 +232,83 @@ impl Connection {
         put_owed(self.alloc, &self.settings, owed, outbox)
     }
 
+    /// Judges a frame of a channel and leaves the channel, where that is done at once. Otherwise nothing is done.
+    #[inline(always)]
+    #[tactic(auto, using(crate::proofs::StreamLemmas::end_itself))]
+    fn pass_on_lent(&mut self, agreed: Agreed, number: u16, reading: Reading<'_>) -> Option<Told>
+        requires above { 0 < number }
+        requires running { self.old.stage ≡ Stage.Running agreed }
+        requires lends { self.old.settings.lends ≡ true }
+        ensures rules { IfSome result (λ told. FrameRules self.old.settings (connection_end self.old) number
+            (reading_view reading.entry) (OnChannel (Proceeds told None))) }
+        ensures left { IfSome result (λ told. AlikeEnds
+            (end_left (role_for self.old.settings) number (reading_view reading.entry) (OnChannel (Proceeds told None))
+            (connection_end self.old))
+            (connection_end self.new)) }
+        ensures settings { self.new.settings ≡ self.old.settings }
+        ensures stage { self.new.stage ≡ self.old.stage }
+        ensures none { result ≡ None → self.new ≡ self.old }
+    {
+        let site = self.site(number, agreed.channel_max);
+        match self.channels.pass_lent(site, reading) {
+            Some(told) => Some(told),
+            None => None,
+        }
+    }
+
+    /// Takes a frame of a channel as [`Connection::receive_lent`] does, where that is done at once: it puts nothing, and
+    /// changes at most how far a content has come. The answer is what the frame tells. Otherwise nothing is done.
+    #[inline(always)]
+    pub(crate) fn pass_lent(
+        &mut self,
+        outbox: &Outbox,
+        agreed: Agreed,
+        frame: FrameRef<'_>,
+        reading: Reading<'_>,
+        heard: &mut Heard,
+    ) -> Option<Told>
+        requires lends { self.old.settings.lends ≡ true }
+        requires running { self.old.stage ≡ Stage.Running agreed }
+        requires staged { outbox.now.staged ≡ [] }
+        requires says { reading_view reading ≡ says (lent frame) }
+        ensures said { IfSome result (λ told. AnswersFrame
+            (answer_with (reported told) (event_of_frame (config_view self.old.settings)
+            (connection_end self.old) (lent frame.entry)))
+            (outcome_of (facts_at (config_view self.old.settings) (connection_end self.old) (lent frame.entry).channel)
+            (end_verdict (config_view self.old.settings) (connection_end self.old) (lent frame.entry)))) }
+        ensures told { IfSome result (λ told. report_lent (lent frame.entry).channel (says (lent frame.entry))
+            (Report.OnChannel told)
+            ≡ lent_of (lent frame.entry).channel (says (lent frame.entry))
+            (maybe_telling (event_of_frame (config_view self.old.settings)
+            (connection_end self.old) (lent frame.entry)))) }
+        ensures end { IfSome result (λ told. EndsAlike (reported told) (connection_end self.old)
+            (end_after_taken (role_for self.old.settings) (config_view self.old.settings) (connection_end self.old)
+            (says (lent frame.entry)) (lent frame.entry)) (connection_end self.new)) }
+        ensures output { IfSome result (λ told. PutsAs (reported told) outbox.now.output
+            (after_puts (end_puts (config_view self.old.settings) (connection_end self.old) (lent frame.entry))
+            outbox.now.output)
+            outbox.now) }
+        ensures heard { IfSome result (λ told. heard_view heard.new ≡ said_after (config_view self.old.settings)
+            (connection_end self.old) (lent frame.entry) (heard_view heard.old)) }
+        ensures settings { self.new.settings ≡ self.old.settings }
+        ensures stage { self.new.stage ≡ self.old.stage }
+        ensures none { result ≡ None → self.new ≡ self.old }
+        ensures none_heard { result ≡ None → heard.new ≡ heard.old }
+    {
+        if frame.channel == 0 {
+            return None;
+        }
+        match self.pass_on_lent(agreed, frame.channel, reading) {
+            Some(told) => {
+                keep_cause(reading, ChannelVerdict::Proceeds(told, None), heard);
+                Some(told)
+            }
+            None => None,
+        }
+    }
+
     /// Takes a frame that says this. What the end owes is put, and what the frame tells is answered. Out of memory,
     /// the end fails, and nothing is put.
-    #[inline(always)]
     pub(crate) fn receive_lent(
         &mut self,
         outbox: &mut Outbox,
@@ -282,6 +360,57 @@ impl Connection {
         let fault = fault_on(verdict);
         self.fail_by(fault, frame, tally);
         report_on(verdict)
+    }
+
+    /// Takes a frame that lies in the piece and says this, as [`Connection::receive_lent`] does. It stands apart: most
+    /// frames pass.
+    #[inline(never)]
+    pub(crate) fn take_lent<'a>(
+        &mut self,
+        outbox: &mut Outbox,
+        frame: FrameRef<'a>,
+        reading: Reading<'a>,
+        tally: &mut Tally,
+        heard: &mut Heard,
+    ) -> Result<Step<'a>, CoreFault>
+        requires lends { self.old.settings.lends ≡ true }
+        requires taking { takes_frames (phase_at self.old.stage) ≡ true }
+        requires staged { outbox.old.staged ≡ [] }
+        requires says { reading_view reading ≡ says (lent frame) }
+        ensures said { AnswersFrame
+            (answer_with result (event_of_frame (config_view self.old.settings)
+            (connection_end self.old) (lent frame.entry)))
+            (outcome_of (facts_at (config_view self.old.settings) (connection_end self.old) (lent frame.entry).channel)
+            (end_verdict (config_view self.old.settings) (connection_end self.old) (lent frame.entry))) }
+        ensures octets { IfOk result (λ step. step.octets ≡ frame_length (lent frame.entry)) }
+        ensures told { IfOk result (λ step. (given : Option Frame) → came_lent step.came given
+            ≡ lent_of (lent frame.entry).channel (says (lent frame.entry))
+            (maybe_telling (event_of_frame (config_view self.old.settings)
+            (connection_end self.old) (lent frame.entry)))) }
+        ensures end { EndsAlike result (connection_end self.old)
+            (end_after_taken (role_for self.old.settings) (config_view self.old.settings) (connection_end self.old)
+            (says (lent frame.entry)) (lent frame.entry)) (connection_end self.new) }
+        ensures output { PutsAs result outbox.old.output
+            (after_puts (end_puts (config_view self.old.settings) (connection_end self.old) (lent frame.entry))
+            outbox.old.output)
+            outbox.new }
+        // A frame that is dropped takes no memory.
+        ensures alone { IsDropped (phase_at self.old.stage) (channels_view self.old.channels (lent frame.entry).channel)
+            (lent frame.entry).channel (lent frame.entry).kind (lent frame.entry).payload → IsOk result }
+        ensures heard { ran_out result ≡ false → heard_view heard.new ≡ said_after (config_view self.old.settings)
+            (connection_end self.old) (lent frame.entry) (heard_view heard.old) }
+        ensures at_fault { ran_out result ≡ false → OnErr result (heard_view heard.new ≡ heard_view heard.old) }
+        ensures settings { self.new.settings ≡ self.old.settings }
+        ensures tally { tally_view tally.new
+            ≡ blames_frame (code_found result) (lent frame.entry) (tally_view tally.old) }
+    {
+        let report = self.receive_lent(outbox, frame, reading, tally, heard)?;
+        Ok(step_reported(
+            frame.payload.len() + OVERHEAD,
+            frame.channel,
+            reading,
+            report,
+        ))
     }
 
     /// The same with a frame of the connection. It stands apart, since few frames are.

@@ -9,6 +9,7 @@ use Rattle.amqp_core.specs.Config.Settings.{config_view}
 use Rattle.amqp_core.proofs.HeardLemmas.{fault_heard, opening_heard}
 use Rattle.amqp_core.proofs.BlameLemmas.{blames_nothing}
 use Rattle.amqp_core.proofs.StreamLemmas.{closed_lent, failed_lent, lent_some, lent_within, step_count, step_some}
+use Rattle.amqp_core.proofs.WholeLemmas.{running_is, running_takes}
 use Rattle.amqp_core.proofs.endpoint.Endpoint.advance.Goals as goal
 
 pub returns-then-is_closed-clause-lent : goal.returns-then-is_closed-clause-lent
@@ -45,8 +46,8 @@ returns-then-awaits_header-clause-within c =
 pub returns-clause-within : goal.returns-clause-within
 returns-clause-within c =
     let old = c.args.self.now in
-    step_count c.read_lent.result c.read_lent.new.self.splitter.given (λ n. n ≤ length c.args.piece.now)
-    (lent_within (role_at old) (config_view old.connection.settings) _ (endpoint_view old) c.args.piece.now _ _ (λ n. n ≤ length c.args.piece.now) c.read_lent.ensures.lent
+    step_count c.read_any-answer.result c.read_any-answer.new.self.splitter.given (λ n. n ≤ length c.args.piece.now)
+    (lent_within (role_at old) (config_view old.connection.settings) _ (endpoint_view old) c.args.piece.now _ _ (λ n. n ≤ length c.args.piece.now) c.read_any-answer.ensures.lent
     (c.cut_changes_nothing.ensures.within (role_at old) (config_view old.connection.settings) (endpoint_view old) c.args.piece.now))
 
 pub returns-then-awaits_header-clause-progress : goal.returns-then-awaits_header-clause-progress
@@ -61,9 +62,32 @@ pub returns-clause-progress : goal.returns-clause-progress
 returns-clause-progress c =
     let old = c.args.self.now in
     let running : (connection_end old.connection).phase ≢ Failed = λ failed. true≢false (sym (c.if-is_failed.ensures.takes refl (c.if-is_closed.ensures.not refl)) ∙ ap takes_octets failed) in
+    step_some c.read_any-answer.result c.read_any-answer.new.self.splitter.given c.args.piece.now
+    (lent_some (role_at old) (config_view old.connection.settings) _ (endpoint_view old) c.args.piece.now _ _ c.read_any-answer.ensures.lent
+    (c.cut_changes_nothing.ensures.progress (role_at old) (config_view old.connection.settings) (endpoint_view old) c.args.piece.now (c.if-is_closed.ensures.not refl) running))
+
+-- On a connection that is Running.
+
+pub returns-in-Some-clause-memory : goal.returns-in-Some-clause-memory
+returns-in-Some-clause-memory c = λ ran. running_takes c.args.self.now.connection.stage c.in-Some.agreed c.in-Some.ensures.running
+
+pub returns-in-Some-clause-over : goal.returns-in-Some-clause-over
+returns-in-Some-clause-over c = λ over. absurd (true≢false (sym (running_takes c.args.self.now.connection.stage c.in-Some.agreed c.in-Some.ensures.running) ∙ over))
+
+pub returns-in-Some-clause-within : goal.returns-in-Some-clause-within
+returns-in-Some-clause-within c =
+    let old = c.args.self.now in
+    step_count c.read_lent.result c.read_lent.new.self.splitter.given (λ n. n ≤ length c.args.piece.now)
+    (lent_within (role_at old) (config_view old.connection.settings) _ (endpoint_view old) c.args.piece.now _ _ (λ n. n ≤ length c.args.piece.now) c.read_lent.ensures.lent
+    (c.cut_changes_nothing.ensures.within (role_at old) (config_view old.connection.settings) (endpoint_view old) c.args.piece.now))
+
+pub returns-in-Some-clause-progress : goal.returns-in-Some-clause-progress
+returns-in-Some-clause-progress c =
+    let old = c.args.self.now in
+    let stands = running_is old.connection.stage c.in-Some.agreed c.in-Some.ensures.running in
     step_some c.read_lent.result c.read_lent.new.self.splitter.given c.args.piece.now
     (lent_some (role_at old) (config_view old.connection.settings) _ (endpoint_view old) c.args.piece.now _ _ c.read_lent.ensures.lent
-    (c.cut_changes_nothing.ensures.progress (role_at old) (config_view old.connection.settings) (endpoint_view old) c.args.piece.now (c.if-is_closed.ensures.not refl) running))
+    (c.cut_changes_nothing.ensures.progress (role_at old) (config_view old.connection.settings) (endpoint_view old) c.args.piece.now stands.0 stands.1))
 
 -- What is counted and blamed.
 
