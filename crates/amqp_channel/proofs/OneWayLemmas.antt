@@ -1,5 +1,5 @@
 -- Methods that have nothing to do with requests: no rule on requests applies to them, and none is kept or taken away.
-use Rattle.std.proofs.Common.{◌≡◌, ◌<◌, ◌≤◌, ◌==◌, ◌&&◌, ℕ, Bool, true, false, not, nat_lt, cond, List, Option, None, Some, IfSome, refl, arith, ap, sym, ◌∙◌}
+use Rattle.std.proofs.Common.{◌≡◌, ◌<◌, ◌≤◌, ◌==◌, ◌&&◌, ℕ, Bool, true, false, not, nat_lt, cond, List, Option, None, Some, IfSome, refl, arith, sym}
 use Rattle.std.proofs.lemmas.Bool.{true≢false, and_parts}
 use Rattle.std.proofs.lemmas.Bool.Decides.{nat_tests}
 use Rattle.amqp_method.specs.Methods.{Wanted, Always, Never, UnlessNoWait}
@@ -11,7 +11,6 @@ use Rattle.amqp_model.specs.Lent.Streaming.{Streaming, streamed}
 use Rattle.amqp_channel.specs.Channel.ChannelView.{content_on}
 use Rattle.amqp_channel.proofs.LentLemmas.{advanced_alike, standing_alike, standing_fits}
 use Rattle.amqp_model.specs.End.Channels.{Channel, Free, Opening, Closing, Open, Life}
-use Rattle.amqp_model.specs.End.Events.{FrameVerdict}
 use Rattle.amqp_model.specs.End.FrameVerdict.{on_matched, on_message}
 use Rattle.amqp_model.specs.Wire.Methods.{Method, MethodKind, class_of, is_reply, is_request, sends}
 use Rattle.amqp_model.specs.Wire.Notes.{Role, Client, Server, is_client}

@@ -37,6 +37,7 @@ impl<'a> Reading<'a> {
     }
 
     /// What the payload of a method frame says.
+    #[inline(always)]
     #[tactic(auto, unfolding(amqp_model::specs::Wire::Methods::method_at))]
     fn of_method(payload: &'a [u8]) -> Reading<'a>
         ensures { reading_view result ≡ method_reading (method_at payload.now) }
@@ -55,6 +56,7 @@ impl<'a> Reading<'a> {
     }
 
     /// What the payload of a header frame says.
+    #[inline(always)]
     #[tactic(auto, unfolding(amqp_model::specs::Wire::Methods::header_at))]
     fn of_header(payload: &'a [u8]) -> Reading<'a>
         ensures { reading_view result ≡ header_reading (header_at payload.now) }

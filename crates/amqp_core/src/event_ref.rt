@@ -92,6 +92,7 @@ fn blocked_reason<'a>(method: MethodRef<'a>) -> &'a [u8]
 }
 
 /// A method without content.
+#[inline(always)]
 pub(crate) fn lend_method<'a>(number: u16, reading: Reading<'a>) -> Option<EventRef<'a>>
     ensures { event_ref_there result ≡ method_lent number (reading_view reading.entry) }
 {
@@ -107,6 +108,7 @@ pub(crate) fn lend_method<'a>(number: u16, reading: Reading<'a>) -> Option<Event
 }
 
 /// A frame of a content, and whether the content is whole with it.
+#[inline(always)]
 pub(crate) fn lend_part<'a>(number: u16, reading: Reading<'a>, whole: bool) -> Option<EventRef<'a>>
     ensures { event_ref_there result ≡ part_lent number (reading_view reading.entry) whole }
 {

@@ -1,20 +1,16 @@
 -- What is told of a frame is what is lent where the definitions tell it, and what is left is alike to theirs.
-use Rattle.std.proofs.Common.{rules, refl, ap, sym, ◌∙◌, ◌≡◌, subst, cond, map, None, Option}
+use Rattle.std.proofs.Common.{rules, refl, ap, sym, ◌∙◌, ◌≡◌, subst, None, Option}
 use Rattle.amqp_frame.specs.Frame.{lent}
-use Rattle.amqp_model.specs.End.Closes.{frame_of}
 use Rattle.amqp_model.specs.End.Events as events
 use Rattle.amqp_model.specs.Laws.OctetLaws.{event_of_frame}
 use Rattle.amqp_model.specs.Lent.Alike.{lent as lent_of, maybe_telling}
-use Rattle.amqp_model.specs.Output.Outputs.{after_puts}
 use Rattle.amqp_model.specs.Stream.Endpoint.{Outcome}
 use Rattle.amqp_model.specs.Wire.Readings.{Reading}
 use Rattle.amqp_outbox.specs.OutboxView.{only}
 use Rattle.amqp_channel.specs.ReadingView.{reading_view}
 use Rattle.amqp_channel.specs.declared.verdict.Verdict.TheVariants.{Proceeds}
 use Rattle.amqp_core.specs.Config.Settings.{config_view}
-use Rattle.amqp_core.specs.Connection.Outcomes.{owed_by}
 use Rattle.amqp_core.specs.Connection.Rulings.{OnChannel}
-use Rattle.amqp_core.specs.Connection.Stages.{leaves}
 use Rattle.amqp_core.specs.Connection.Verdicts.{event_by, fault_by, outcome_with, verdict_here}
 use Rattle.amqp_core.specs.Connection.View.{connection_end}
 use Rattle.amqp_core.specs.Faults.Answering.{answer_with, AnswersFrame}

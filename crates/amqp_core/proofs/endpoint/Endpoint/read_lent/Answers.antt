@@ -1,11 +1,11 @@
 -- A frame that lies whole in the piece is that of the law on pieces, and what is left of it is alike to what the definitions leave.
-use Rattle.std.proofs.Common.{ℕ, List, length, true, ◌<◌, ◌^◌, ◌+◌, ◌≡◌, Some, None, Ok, Result, [], refl, take, sym, ap, ◌∙◌, subst, arith}
+use Rattle.std.proofs.Common.{true, ◌≡◌, Some, Result, [], refl, take, sym, ap, ◌∙◌, subst, arith}
 use Rattle.amqp_frame.specs.Frame.{frame_length, lent}
 use Rattle.amqp_frame.specs.Splitter.{Completes, after_taking}
 use Rattle.amqp_frame.specs.Stream.{Stream}
 use Rattle.amqp_frame.specs.declared.splitting.Place.TheVariants.{Piece}
 use Rattle.amqp_model.specs.Laws.OctetLaws.{event_of_frame}
-use Rattle.amqp_model.specs.Lent.Alike.{lent as lent_of, maybe_telling, LentEvent}
+use Rattle.amqp_model.specs.Lent.Alike.{lent as lent_of, maybe_telling}
 use Rattle.amqp_model.specs.Stream.Endpoint.{Endpoint, after_feed}
 use Rattle.amqp_model.specs.Stream.Pieces.{reads_frames}
 use Rattle.amqp_model.specs.Wire.Readings.{reading}

@@ -11,7 +11,7 @@ use Rattle.amqp_model.specs.Wire.Readings.{reading as says}
 use Rattle.amqp_core.specs.Config.Settings.{config_view, role_for}
 use Rattle.amqp_core.specs.Connection.View.{connection_end}
 use Rattle.amqp_core.specs.Faults.Answering.{answer_with, ran_out, AnswersFrame, PutsAs}
-use Rattle.amqp_core.specs.Heard.View.{heard_view, said_after, Said}
+use Rattle.amqp_core.specs.Heard.View.{heard_view, said_after}
 use Rattle.amqp_core.specs.Stream.Lending.{EndsAlike}
 use Rattle.amqp_core.specs.Stream.StepView.{came_lent}
 use Rattle.amqp_core.specs.declared.endpoint.Endpoint.{Endpoint}
