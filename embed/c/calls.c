@@ -8,8 +8,18 @@ typedef struct slot {
 	bool open;
 } slot;
 
+/* What a piece gave that was split. */
+typedef struct split_piece {
+	size_t taken;
+	size_t count;
+	uint64_t at;
+	bool cut;
+} split_piece;
+
 uint32_t proved_splitter_open(slot *slot, uint32_t limit);
 uint32_t proved_splitter_feed(slot *slot, const uint8_t *piece, size_t length, mt_frame *frame);
+uint32_t proved_splitter_split(slot *slot, const uint8_t *piece, size_t length, mt_frame *frames, size_t capacity,
+			       split_piece *split);
 uint32_t proved_splitter_pending(slot *slot, size_t *pending);
 uint32_t proved_splitter_set_limit(slot *slot, uint32_t limit);
 uint32_t proved_close(slot *slot);
@@ -118,38 +128,27 @@ uint32_t mt_splitter_feed(mt_splitter *splitter, const uint8_t *piece, size_t le
 	return proved_splitter_feed((slot *)splitter, OCTETS(piece), length, frame);
 }
 
-/* Whether a frame's payload is lent by the piece: the next call leaves such a payload as it is. */
-static bool lies_in(const mt_frame *frame, const uint8_t *piece, size_t length)
-{
-	return frame->length == 0 || ((uintptr_t)frame->payload >= (uintptr_t)piece &&
-				      (uintptr_t)frame->payload < (uintptr_t)piece + length);
-}
-
-/* Of the frames of a piece only the first can have begun in an earlier one: all others lie in the piece. */
+/* A frame that began in an earlier piece is the splitter's, and is fed alone. All others lie in the piece. */
 uint32_t mt_splitter_feed_batch(mt_splitter *splitter, const uint8_t *piece, size_t length, mt_frame *frames,
 				size_t capacity, size_t *count, size_t *taken)
 {
-	const uint8_t *rest = OCTETS(piece);
-	size_t left = length, found = 0;
-	uint32_t status = MT_OK;
+	split_piece split = {0, 0, 0, false};
+	uint32_t status;
 
 	WANTED(splitter && frames && count && taken && (piece || length == 0));
-	while (found < capacity && left > 0) {
-		mt_frame *frame = &frames[found];
-
-		*frame = NO_FRAME;
-		status = proved_splitter_feed((slot *)splitter, rest, left, frame);
-		if (status != MT_OK)
-			break;
-		rest += frame->taken;
-		left -= frame->taken;
-		if (frame->kind == MT_NO_FRAME)
-			break;
-		if (++found == 1 && !lies_in(frame, piece, length))
-			break;
+	status = proved_splitter_split((slot *)splitter, OCTETS(piece), length, frames, capacity, &split);
+	if (split.cut && capacity > 0 && length > 0) {
+		status = mt_splitter_feed(splitter, piece, length, frames);
+		*count = status == MT_OK && frames->kind != MT_NO_FRAME;
+		*taken = frames->taken;
+		return status;
 	}
-	*count = found;
-	*taken = length - left;
+	if (status != MT_OK && split.count < capacity) {
+		frames[split.count] = NO_FRAME;
+		frames[split.count].at = split.at;
+	}
+	*count = split.count;
+	*taken = split.taken;
 	return status;
 }
 

@@ -3,6 +3,7 @@ pub mod Counting
 pub mod KeptEnds
 pub mod LentHeaders
 pub mod Sent
+pub mod SplitFrames
 pub mod Unwritten
 pub mod WrittenHeaders
 pub mod WrittenTables

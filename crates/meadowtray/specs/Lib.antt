@@ -19,6 +19,7 @@ pub mod LentEvents
 pub mod Messages
 pub mod Methods
 pub mod Sending
+pub mod SplitPieces
 pub mod Splitters
 pub mod Tables
 pub mod Values

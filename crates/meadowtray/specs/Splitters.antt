@@ -17,7 +17,7 @@ use Rattle.amqp_handle.specs.declared.held.Held.TheVariants.{Splitter}
 use Rattle.meadowtray.specs.declared.splitting.FedFrame.{FedFrame}
 
 -- the fault of a status above 100
-abbrev frame_fault : ℕ → FrameFaultKind
+abbrev pub frame_fault : ℕ → FrameFaultKind
 frame_fault status =
     if nat_eq status 101 then UnknownType
     else if nat_eq status 102 then TooLarge
@@ -26,7 +26,7 @@ frame_fault status =
     else Failed
 
 -- the frame of a type octet: 0 says that there is none
-abbrev frame_there : FedFrame → Option FrameRef
+abbrev pub frame_there : FedFrame → Option FrameRef
 frame_there out =
     if nat_eq out.kind 1 then Some (record { kind = Method; channel = out.channel; payload = out.payload })
     else if nat_eq out.kind 2 then Some (record { kind = Header; channel = out.channel; payload = out.payload })

@@ -1,12 +1,13 @@
 //! A splitter behind a handle.
-ghost use Rattle.std.specs.Prelude.{◌≡◌, length, Some};
+ghost use Rattle.std.specs.Prelude.{◌≡◌, ◌<◌, [], length, Some};
 ghost use Rattle.std.specs.Borrow.{sem};
 ghost use Rattle.amqp_handle.specs.declared.held.Held.TheVariants as held;
 ghost use Rattle.meadowtray.specs.Lending.{FollowsSplitter, IsSplitter, LeavesSlot};
-ghost use Rattle.meadowtray.specs.Splitters.{answer_of, AnswersOf, FeedsSplitter, OfSplitter, OpensSplitter, SetsLimit};
+ghost use Rattle.meadowtray.specs.SplitPieces.{SplitsHandle, SplitsPiece};
+ghost use Rattle.meadowtray.specs.Splitters.{answer_of, AnswersOf, FeedsSplitter, OfSplitter, OpensSplitter, SetsLimit, frame_fault, frame_there};
 
 use crate::handles::status;
-use amqp_frame::{FedRef, FrameFault, Splitter};
+use amqp_frame::{FedRef, FrameFault, FrameRef, Place, Splitter};
 use amqp_handle::{HandleFault, Held, Slot};
 use std::alloc::Global;
 
@@ -21,6 +22,7 @@ const LEAST_LIMIT: u32 = 8;
 /// With status 0, `taken` says how many octets were taken, and `kind` is the frame's type octet, or 0 where no frame
 /// was finished; the channel and the payload are the frame's. After a fault, `at` is its place in the stream.
 #[repr(C)]
+#[derive(Clone, Copy)]
 pub struct FedFrame<'a> {
     pub taken: usize,
     pub at: u64,
@@ -29,7 +31,28 @@ pub struct FedFrame<'a> {
     pub kind: u8,
 }
 
+/// What a piece gave that was split into frames.
+///
+/// `taken` says how many of its octets were taken, and `count` into how many frames. With status 0, `cut` says that
+/// none were, since a frame had begun in an earlier piece. After a fault, `at` is its place in the stream.
+#[repr(C)]
+pub struct SplitPiece {
+    pub taken: usize,
+    pub count: usize,
+    pub at: u64,
+    pub cut: bool,
+}
+
+/// The status of a fault.
+#[inline(always)]
+fn fault_status(fault: FrameFault) -> u32
+    ensures { (100 < result) × (frame_fault result ≡ fault.kind) }
+{
+    FRAME_FAULTS + fault.kind.number() as u32
+}
+
 /// Puts an answer where C reads it. The result is the status.
+#[inline(always)]
 fn told<'a>(answer: Result<FedRef<'a>, FrameFault>, out: &mut FedFrame<'a>) -> u32
     ensures { answer_of result out.new ≡ answer.entry }
 {
@@ -48,7 +71,7 @@ fn told<'a>(answer: Result<FedRef<'a>, FrameFault>, out: &mut FedFrame<'a>) -> u
         }
         Err(fault) => {
             out.at = fault.at;
-            FRAME_FAULTS + fault.kind.number() as u32
+            fault_status(fault)
         }
     }
 }
@@ -98,6 +121,91 @@ pub extern "C" fn proved_splitter_feed<'a>(
         return HandleFault::NotOpen.number();
     }
     told(fed(slot, piece), out)
+}
+
+/// A frame that lies in the piece, as it crosses to C.
+#[inline(always)]
+fn fed_frame<'a>(taken: usize, frame: FrameRef<'a>) -> FedFrame<'a>
+    ensures { (result.taken ≡ taken) × (frame_there result ≡ Some frame.entry) }
+{
+    FedFrame {
+        taken,
+        at: 0,
+        payload: frame.payload,
+        channel: frame.channel,
+        kind: frame.kind.octet(),
+    }
+}
+
+/// Takes the frames that lie in a piece, one after the other, as long as there is a place for each.
+#[inline(always)]
+fn split<'a>(
+    splitter: &mut Splitter,
+    piece: &'a [u8],
+    frames: &mut [FedFrame<'a>],
+    out: &mut SplitPiece,
+) -> u32
+    requires { splitter.old.pending ≡ [] }
+    ensures { SplitsPiece splitter.old piece.now frames.old result out.new frames.new splitter.new }
+{
+    let mut rest = piece;
+    let mut count = 0;
+    out.cut = false;
+    while count < frames.len() && !rest.is_empty() {
+        match splitter.advance(rest) {
+            Ok(advanced) => {
+                let Some(place) = advanced.place else {
+                    out.taken = piece.len();
+                    out.count = count;
+                    return 0;
+                };
+                match place {
+                    Place::Piece(frame) => {
+                        frames[count] = fed_frame(advanced.taken, frame);
+                        rest = &rest[advanced.taken..];
+                        count += 1;
+                    }
+                    Place::Buffer => unreachable!(),
+                }
+            }
+            Err(fault) => {
+                out.taken = piece.len() - rest.len();
+                out.count = count;
+                out.at = fault.at;
+                return fault_status(fault);
+            }
+        }
+    }
+    out.taken = piece.len() - rest.len();
+    out.count = count;
+    0
+}
+
+/// Feeds the splitter of a handle with the frames that lie in a piece, and puts them into `frames`. Where a frame began
+/// in an earlier piece, nothing is taken.
+#[unsafe(no_mangle)]
+pub extern "C" fn proved_splitter_split<'a>(
+    slot: &mut Slot,
+    piece: &'a [u8],
+    frames: &mut [FedFrame<'a>],
+    out: &mut SplitPiece,
+) -> u32
+    ensures { SplitsHandle slot.old.value piece.now frames.old result out.new frames.new slot.new.value }
+{
+    if !slot.is_open() {
+        return HandleFault::NotOpen.number();
+    }
+    match slot.held() {
+        Held::Splitter(splitter) => {
+            if splitter.pending() > 0 {
+                out.taken = 0;
+                out.count = 0;
+                out.cut = true;
+                return 0;
+            }
+            split(splitter, piece, frames, out)
+        }
+    }
 }
 
 /// How many octets were taken of a frame that isn't whole yet.

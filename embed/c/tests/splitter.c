@@ -148,6 +148,39 @@ static void faults(void)
 	}
 }
 
+/* A frame that began in an earlier piece ends a batch, whether it is whole, waits or shows a fault. */
+static void cut_frames(void)
+{
+	static const uint8_t TWICE[] = {8, 0, 0, 0, 0, 0, 0, 0xce, 8, 0, 0, 0, 0, 0, 0, 0xce};
+	static const uint8_t BAD_END = 0;
+	mt_splitter splitter = MT_SPLITTER_INIT;
+	mt_frame frames[4];
+	size_t count, taken;
+
+	CHECK(mt_splitter_open(&splitter, 4096) == MT_OK);
+	CHECK(mt_splitter_feed_batch(&splitter, TWICE, 3, frames, 4, &count, &taken) == MT_OK);
+	CHECK(count == 0 && taken == 3);
+	CHECK(mt_splitter_feed_batch(&splitter, TWICE + 3, 4, frames, 4, &count, &taken) == MT_OK);
+	CHECK(count == 0 && taken == 4);
+	CHECK(mt_splitter_feed_batch(&splitter, TWICE + 7, 9, frames, 0, &count, &taken) == MT_OK);
+	CHECK(count == 0 && taken == 0);
+	CHECK(mt_splitter_feed_batch(&splitter, TWICE + 7, 9, frames, 4, &count, &taken) == MT_OK);
+	CHECK(count == 1 && taken == 1 && frames[0].kind == MT_HEARTBEAT && frames[0].taken == 1);
+	CHECK(mt_splitter_feed_batch(&splitter, TWICE, sizeof TWICE, frames, 4, &count, &taken) == MT_OK);
+	CHECK(count == 2 && taken == sizeof TWICE && frames[1].kind == MT_HEARTBEAT && frames[1].length == 0);
+	CHECK(mt_splitter_feed_batch(&splitter, TWICE, sizeof TWICE, frames, 1, &count, &taken) == MT_OK);
+	CHECK(count == 1 && taken == 8);
+	CHECK(mt_splitter_feed_batch(&splitter, TWICE, sizeof TWICE - 1, frames, 4, &count, &taken) == MT_OK);
+	CHECK(count == 1 && taken == sizeof TWICE - 1);
+	CHECK(mt_splitter_feed_batch(&splitter, &BAD_END, 1, frames, 4, &count, &taken) == MT_FRAME_BAD_END);
+	CHECK(count == 0 && taken == 0 && frames[0].at == 47);
+	CHECK(mt_splitter_feed_batch(&splitter, TWICE, sizeof TWICE, frames, 4, &count, &taken) == MT_FRAME_FAILED);
+	CHECK(count == 0 && taken == 0 && frames[0].at == 47);
+	CHECK(mt_splitter_close(&splitter) == MT_OK);
+	CHECK(mt_splitter_feed_batch(&splitter, TWICE, sizeof TWICE, frames, 4, &count, &taken) == MT_NOT_OPEN);
+	CHECK(count == 0 && taken == 0);
+}
+
 static void misuse(void)
 {
 	mt_splitter splitter = MT_SPLITTER_INIT;
@@ -223,6 +256,7 @@ int main(void)
 	split_in_pieces(stream, length, length);
 	split_in_batches(stream, length, length, 8);
 	faults();
+	cut_frames();
 	misuse();
 	memory();
 	printf("splitter: %lu checks\n", checked);
