@@ -35,7 +35,8 @@ faulty status out = Err (record { at = out.at; kind = frame_fault status })
 
 -- Why there are no more frames than these, of a splitter which they left so, with this rest, and with room for so many
 -- more; and what it is then.
-pub data Ends (old : Stream) (rest : List ℕ) (room status : ℕ) (out : SplitPiece) (all : ℕ) (new : Stream) : Type 0 where
+pub data Ends (old : Stream) (rest : List ℕ) (room status : ℕ) (out : SplitPiece) (all : ℕ)
+    (new : Stream) : Type 0 where
   -- no octet is left, or no room
   given : status ≡ 0 → ((rest ≡ []) ⊎ (room ≡ 0)) → out.taken + length rest ≡ all → new ≡ old
       → Ends old rest room status out all new
