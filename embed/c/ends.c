@@ -288,20 +288,6 @@ static uint32_t show(mt_end *end, size_t place, mt_event *event)
 	return proved_end_event((slot *)end, place, seen_of(event));
 }
 
-/* Feeds an end whose events lend. */
-static uint32_t feed_lent(mt_end *end, const uint8_t *piece, size_t length, mt_event *event)
-{
-	fed_end fed = {0, 0, MT_EVENT_NONE};
-	uint32_t status;
-
-	*event = NO_EVENT;
-	status = proved_end_feed_lent((slot *)end, piece, length, &fed, seen_of(event));
-	event->taken = fed.taken;
-	if (status != MT_OK)
-		event->code = fed.code;
-	return status;
-}
-
 /* Whether octets lie in the piece, or there are none: the next feed leaves them as they are. */
 static bool lie_in(mt_octets octets, const uint8_t *piece, size_t length)
 {
@@ -321,18 +307,20 @@ static bool lies_in(const mt_event *event, const uint8_t *piece, size_t length)
 static uint32_t feed_lent_batch(mt_end *end, const uint8_t *piece, size_t length, mt_event *events, size_t capacity,
 				size_t *count, size_t *taken, uint16_t *code)
 {
+	fed_end fed = {0, 0, MT_EVENT_NONE};
 	size_t found = 0, at = 0;
 	uint32_t status = MT_OK;
-	uint16_t last = 0;
 
 	while (found < capacity && at < length) {
 		mt_event *event = &events[found];
 
-		status = feed_lent(end, piece + at, length - at, event);
-		at += event->taken;
+		*event = NO_EVENT;
+		status = proved_end_feed_lent((slot *)end, piece + at, length - at, &fed, seen_of(event));
+		if (status != MT_OK)
+			break;
+		at += fed.taken;
 		event->taken = at;
-		last = event->code;
-		if (status != MT_OK || event->kind == MT_EVENT_NONE)
+		if (fed.kind == MT_EVENT_NONE)
 			break;
 		if (++found == 1 && !lies_in(event, piece, length))
 			break;
@@ -340,26 +328,39 @@ static uint32_t feed_lent_batch(mt_end *end, const uint8_t *piece, size_t length
 	*count = found;
 	*taken = at;
 	if (code)
-		*code = last;
+		*code = fed.code;
 	return status;
 }
 
-uint32_t mt_end_feed(mt_end *end, const uint8_t *piece, size_t length, mt_event *event)
+/* Feeds an end that keeps its events, and shows the event. */
+static uint32_t feed_and_show(mt_end *end, const uint8_t *piece, size_t length, mt_event *event)
 {
 	fed_end fed = {0, 0, MT_EVENT_NONE};
-	uint32_t status;
+	uint32_t status = feed_at(end, 0, piece, length, &fed);
 
-	WANTED(end && event && (piece || length == 0));
-	status = feed_at(end, 0, piece ? piece : NOTHING, length, &fed);
-	if (status == MT_OTHER_KIND)
-		return feed_lent(end, piece ? piece : NOTHING, length, event);
-	*event = NO_EVENT;
 	event->taken = fed.taken;
 	event->code = fed.code;
 	event->kind = fed.kind;
 	if (status != MT_OK || fed.kind == MT_EVENT_NONE)
 		return status;
 	return show(end, 0, event);
+}
+
+uint32_t mt_end_feed(mt_end *end, const uint8_t *piece, size_t length, mt_event *event)
+{
+	const uint8_t *octets = piece ? piece : NOTHING;
+	fed_end fed = {0, 0, MT_EVENT_NONE};
+	uint32_t status;
+
+	WANTED(end && event && (piece || length == 0));
+	*event = NO_EVENT;
+	status = proved_end_feed_lent((slot *)end, octets, length, &fed, seen_of(event));
+	if (status == MT_OTHER_KIND)
+		return feed_and_show(end, octets, length, event);
+	event->taken = fed.taken;
+	if (status != MT_OK)
+		event->code = fed.code;
+	return status;
 }
 
 uint32_t mt_end_event(mt_end *end, mt_event *event)

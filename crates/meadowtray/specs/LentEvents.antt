@@ -1,12 +1,14 @@
 -- What a feed of an end behind a handle does whose events lend. Read before: what a feed of such an end does (`Lends`
 -- of `amqp_core`).
-use Rattle.std.specs.Prelude.{◌≡◌, ℕ, List, Bool, true, false, Option, Some, None, Result, Ok, Err}
+use Rattle.std.specs.Prelude.{◌≡◌, ℕ, List, true, false, Option, Some, None, Result, Ok, Err}
 use Rattle.amqp_method.specs.Encoding.{EncodesMethod}
 use Rattle.amqp_method.specs.Properties.{header, EncodesHeader}
 use Rattle.amqp_model.specs.End.Events as events
 use Rattle.amqp_model.specs.Lent.Alike.{LentEvent, WithoutContent, Begins, Heads, Part, Other}
 use Rattle.amqp_core.specs.Stream.Lending.{LentSeen}
 use Rattle.amqp_core.specs.Stream.Lends.{Lends}
+use Rattle.amqp_core.specs.Stream.StepView.{step_seen}
+use Rattle.amqp_core.specs.Stream.View.{given_in}
 use Rattle.amqp_core.specs.declared.faults.CoreFault.{CoreFault}
 use Rattle.amqp_core.specs.declared.roles.Role.{Ghosts}
 use Rattle.amqp_core.specs.declared.stream.StreamEnd.{StreamEnd}
@@ -17,6 +19,7 @@ use Rattle.meadowtray.specs.EndNumbers.{core_status}
 use Rattle.meadowtray.specs.Feeding.{TellsCode}
 use Rattle.meadowtray.specs.declared.ends.events.SeenEvent.{SeenEvent}
 use Rattle.meadowtray.specs.declared.ends.feeding.FedEnd.{FedEnd}
+use Rattle.meadowtray.specs.declared.ends.lending.Lent.{Lent}
 
 -- ---- what is told
 
@@ -59,7 +62,7 @@ TellsEvent (Part channel octets whole) out =
 TellsEvent (Other event) out = TellsOther event out
 
 -- the event, if there is one
-abbrev TellsMaybe : Option LentEvent → FedEnd → SeenEvent → Type 0
+abbrev pub TellsMaybe : Option LentEvent → FedEnd → SeenEvent → Type 0
 TellsMaybe None fed out = fed.kind ≡ 0
 TellsMaybe (Some event) fed out = (fed.kind ≡ out.kind) × TellsEvent event out
 
@@ -69,6 +72,11 @@ TellsLent (Ok seen) status fed out = (status ≡ 0) × (fed.taken ≡ seen.octet
 TellsLent (Err fault) status fed out = (status ≡ core_status fault) × TellsCode fault fed.code
 
 -- ---- what the end does
+
+-- what is answered to a piece: what came of it, with the frame that lies in the end's buffer
+abbrev pub lent_seen : {R H : Type 0} {G : Ghosts R H} → Result (Lent R H G) CoreFault → Result LentSeen CoreFault
+lent_seen (Ok lent) = step_seen (Ok lent.step) (given_in lent.end.now)
+lent_seen (Err fault) = Err fault
 
 -- the end is fed the piece, answers this, and its places stay
 pub record LendsKept {R H : Type 0} {G : Ghosts R H} (old : Kept (StreamEnd R H G)) (piece : List ℕ)
@@ -83,17 +91,6 @@ pub record LentAnswer {R H : Type 0} {G : Ghosts R H} (old : StreamEnd R H G) (p
   -- the end that is left
   pub new : StreamEnd R H G
   pub lends : Lends old piece seen new
-
-abbrev pub is_lending : Option HeldEnd → Bool
-is_lending (Some (LendingClient kept)) = true
-is_lending (Some (LendingServer kept)) = true
-is_lending held = false
-
--- what the end of a handle answers, if its events lend
-abbrev pub LentOf : Option HeldEnd → List ℕ → Result LentSeen CoreFault → Type 0
-LentOf (Some (LendingClient kept)) piece seen = LentAnswer kept.end.value piece seen
-LentOf (Some (LendingServer kept)) piece seen = LentAnswer kept.end.value piece seen
-LentOf held piece seen = ⊥
 
 -- the answer is told; a handle that isn't open is refused, and one whose end gathers
 abbrev pub FeedsLent : Option HeldEnd → List ℕ → ℕ → FedEnd → SeenEvent → Type 0

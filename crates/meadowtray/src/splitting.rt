@@ -52,7 +52,6 @@ fn fault_status(fault: FrameFault) -> u32
 }
 
 /// Puts an answer where C reads it. The result is the status.
-#[inline(always)]
 fn told<'a>(answer: Result<FedRef<'a>, FrameFault>, out: &mut FedFrame<'a>) -> u32
     ensures { answer_of result out.new ≡ answer.entry }
 {

@@ -1,6 +1,6 @@
-use Rattle.std.proofs.Common.{Ok, Err, refl, sym, ap, subst, ◌∙◌}
+use Rattle.std.proofs.Common.{Ok, Err, refl, sym, subst}
 use Rattle.amqp_core.specs.Stream.Lends.{Lends}
-use Rattle.amqp_core.specs.Stream.StepView.{came_lent, step_seen}
+use Rattle.amqp_core.specs.Stream.StepView.{step_seen}
 use Rattle.amqp_core.specs.Stream.View.{given_in}
 use Rattle.meadowtray.proofs.ends.lending.lend.Goals as goal
 
@@ -9,9 +9,9 @@ returns-in-Ok g c =
     let piece = c.args.piece.now in
     let step = c.in-Ok.step in
     let new = c.advance.new.self in
+    let old = c.args.kept.now.end.value in
     let lent = subst (λ end. Lends end piece (step_seen (Ok step) (given_in new)) new) c.deref_mut.ensures.value c.in-Ok.ensures.lends in
-    let told = c.event.ensures ∙ ap (λ end. came_lent step.came (given_in end)) c.deref.ensures in
-    let lends = subst (λ event. Lends c.args.kept.now.end.value piece (Ok (record { octets = step.octets; event = event })) new) (sym told) lent in (
+    let lends = subst (λ end. Lends old piece (step_seen (Ok step) (given_in end)) new) (sym c.deref.ensures) lent in (
       (refl, λ _. tt, record { lends = lends; places = refl }),
       record {
         answers = record { new = new; lends = lends };
