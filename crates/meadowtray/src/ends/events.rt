@@ -138,7 +138,7 @@ fn show_reason<'a>(reason: &'a Option<Reason>, out: &mut SeenEvent<'a>)
 
 /// An event of this kind, before anything is said of it.
 #[inline(always)]
-pub(crate) fn of_kind<'a>(kind: u8) -> SeenEvent<'a>
+fn of_kind<'a>(kind: u8) -> SeenEvent<'a>
     ensures { result.kind ≡ kind }
 {
     SeenEvent {
