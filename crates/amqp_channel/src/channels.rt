@@ -379,7 +379,7 @@ impl Channels {
     /// rules are asked by [`Channels::judge`].
     ///
     /// Most frames are done with here. Each kind of them goes its own way from what it says to what it tells, so that
-    /// nothing is written to memory between: an ack takes 38 ns so, and 63 ns by way of a verdict.
+    /// nothing is written to memory between: an ack takes 41 ns so, and 63 ns by way of a verdict.
     #[inline(always)]
     #[tactic(auto, using(crate::proofs::OneWayLemmas::passes_fits, crate::proofs::OneWayLemmas::passes_left, crate::proofs::OneWayLemmas::passes_kept))]
     pub fn pass_lent(&mut self, site: Site, reading: Reading<'_>) -> Option<Told>
