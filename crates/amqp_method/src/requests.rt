@@ -44,8 +44,8 @@ impl Kind {
         self.request().is_some()
     }
 
-    /// Whether the client may send the method, or the server, of a class above channel, and the other end answers it in
-    /// no case where the client sends it, and it answers nothing where the server does: as a publish, a deliver, an ack.
+    /// Whether the method has nothing to do with requests: this side may send it, its class is above channel, and the
+    /// server never replies to it, or, sent by the server, it is no reply. Such are a publish, a deliver and an ack.
     #[inline(always)]
     pub fn is_one_way(self, client: bool) -> bool
         ensures { result ≡ is_one_way client self }

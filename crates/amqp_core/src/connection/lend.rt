@@ -256,8 +256,8 @@ impl Connection {
         }
     }
 
-    /// Takes a frame of a channel as [`Connection::receive_lent`] does, where that is done at once: it puts nothing, and
-    /// changes at most how far a content has come. The answer is what the frame tells. Otherwise nothing is done.
+    /// Takes a frame of a channel as [`Connection::receive_lent`] does, where that is done at once: it puts nothing,
+    /// and changes at most how far a content has come. The answer is what the frame tells. Otherwise nothing is done.
     #[inline(always)]
     pub(crate) fn pass_lent(
         &mut self,
