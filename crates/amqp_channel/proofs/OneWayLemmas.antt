@@ -1,5 +1,5 @@
 -- Methods that have nothing to do with requests: no rule on requests applies to them, and none is kept or taken away.
-use Rattle.std.proofs.Common.{◌≡◌, ◌<◌, ◌≤◌, ◌==◌, ◌&&◌, ℕ, Bool, true, false, not, nat_lt, cond, List, Option, None, Some, IfSome, refl, arith, sym}
+use Rattle.std.proofs.Common.{◌≡◌, ◌<◌, ◌≤◌, ◌==◌, ◌&&◌, ℕ, Bool, true, false, not, nat_lt, cond, List, Option, None, Some, IfSome, Result, Ok, Err, OnOk, OnErr, refl, ap, arith, sym, ◌∙◌}
 use Rattle.std.proofs.lemmas.Bool.{true≢false, and_parts}
 use Rattle.std.proofs.lemmas.Bool.Decides.{nat_tests}
 use Rattle.amqp_method.specs.Methods.{Wanted, Always, Never, UnlessNoWait}
@@ -16,9 +16,10 @@ use Rattle.amqp_model.specs.Wire.Methods.{Method, MethodKind, class_of, is_reply
 use Rattle.amqp_model.specs.Wire.Notes.{Role, Client, Server, is_client}
 use Rattle.amqp_model.specs.Wire.Readings.{Reading, Calls, kind_of, kind_of_method}
 use Rattle.amqp_channel.specs.Channel.LifeView.{IsOther}
+use Rattle.amqp_channel.specs.Channels.Used.{is_closing_at}
 use Rattle.amqp_channel.specs.Verdict.LentView.{known_on, progress_with, stands_on, FitsProgress}
 use Rattle.amqp_channel.specs.Verdict.Passing.{IsOfContent, IsOfMessage, Passes}
-use Rattle.amqp_channel.specs.Verdict.VerdictView.{goes_on, replies_in, told_on, Rules, RulesByState, SentOnChannel, TellsMessage}
+use Rattle.amqp_channel.specs.Verdict.VerdictView.{goes_on, replies_in, told_on, FitsTold, IsPart, Rules, RulesByState, SentOnChannel, TellsMessage}
 use Rattle.amqp_channel.specs.Roles.{role_of}
 use Rattle.amqp_channel.specs.declared.site.Site.{Site}
 use Rattle.amqp_channel.specs.declared.verdict.Verdict.{Verdict}
@@ -203,3 +204,36 @@ known_taken progress Free = refl
 known_taken progress Opening = refl
 known_taken progress Closing = refl
 known_taken progress (Open life) = refl
+
+-- a channel is in use still where its content goes on
+goes_taken : (role : Role) (reading : Reading) (said : Told) (channel : Channel)
+    → is_free (goes_on role reading said channel) ≡ is_free channel
+goes_taken role reading said Free = refl
+goes_taken role reading said Opening = refl
+goes_taken role reading said Closing = refl
+goes_taken role reading said (Open life) = refl
+
+pub applied_taken : {A : Type 0} {E : Type 0} (role : Role) (reading : Reading) (said : Told) (channel after : Channel) (answer : Result A E)
+    → OnOk answer (after ≡ goes_on role reading said channel) → OnErr answer (after ≡ channel) → is_free channel ≡ false
+    → is_free after ≡ false
+applied_taken role reading said channel after (Ok done) ok err taken = ap is_free ok ∙ (goes_taken role reading said channel ∙ taken)
+applied_taken role reading said channel after (Err fault) ok err taken = ap is_free err ∙ taken
+
+-- a part of a content doesn't pass on a channel that this end has closed
+part_fits : (channel : Channel) (reading : Reading) (said : Told) → IsOfMessage said → FitsTold channel reading said
+    → is_closing_at channel ≡ true → IsPart reading → ⊥
+part_fits channel (Calls method) said of fits closing part = part
+part_fits channel reading told.Method of fits closing part = fits
+part_fits channel reading told.Begun of fits closing part = fits
+part_fits Closing reading told.Headed of fits closing part = fits
+part_fits Closing reading told.Continued of fits closing part = fits
+part_fits Closing reading told.Completed of fits closing part = fits
+part_fits Free reading said of fits closing part = true≢false (sym closing)
+part_fits Opening reading said of fits closing part = true≢false (sym closing)
+part_fits (Open life) reading said of fits closing part = true≢false (sym closing)
+part_fits channel reading said of fits closing part = of
+
+pub none_dropped : (site : Site) (channel : Channel) (reading : Reading) (said : Told) → Passes site channel reading said
+    → is_closing_at channel ≡ true → IsPart reading → ⊥
+none_dropped site channel reading said passes closing part =
+    part_fits channel reading said passes.message passes.rules.fits closing part

@@ -18,7 +18,6 @@ ghost use Rattle.amqp_model.specs.End.Channels.{Closing, Free, Open, Opening, ne
 ghost use Rattle.amqp_model.specs.End.FrameVerdict.{is_gathering};
 ghost use Rattle.amqp_model.specs.Lent.Streaming.{streamed};
 ghost use Rattle.amqp_model.specs.Wire.Frame.{Frame};
-ghost use Rattle.amqp_model.specs.Wire.Methods.{is_reply};
 ghost use Rattle.amqp_model.specs.Wire.Notes.{Client, Role};
 ghost use Rattle.amqp_channel.specs.declared.verdict.Verdict.TheVariants.{Proceeds};
 ghost use Rattle.amqp_model.specs.Wire.Readings as readings;
@@ -30,12 +29,12 @@ ghost use Rattle.amqp_channel.specs.Contents.GatheringView.{progress_view};
 ghost use Rattle.amqp_channel.specs.ReadingView.{reading_view, unread_view};
 ghost use Rattle.amqp_channel.specs.Roles.{role_of};
 ghost use Rattle.amqp_channel.specs.Channels.Used.{is_closing_at, is_open_at};
-ghost use Rattle.amqp_channel.specs.Verdict.Passing.{IsOfContent, Passes};
+ghost use Rattle.amqp_channel.specs.Verdict.Passing.{Passes};
 ghost use Rattle.amqp_channel.specs.Verdict.VerdictView.{goes_on, handed_out, left_by, told_on, whole_now, whole_of, Drops, Fits, FitsTold, IsDiscarded, IsPart, Rules, RulesByState, SentOnChannel};
 
 use crate::codes::CloseCode;
 use crate::gathering::Gathering;
-use crate::life::{Life, judge_awaited, judge_part};
+use crate::life::{Life, judge_awaited, judge_part, passes_content};
 use crate::progress::Progress;
 use crate::reading::{Reading, Unread};
 use crate::side::Side;
@@ -241,29 +240,6 @@ fn judge_inside(site: Site, method: MethodRef<'_>) -> Verdict
     Verdict::Faults(CloseCode::UnexpectedFrame)
 }
 
-/// What a frame of a content tells that has this verdict, where the content answers no request with it.
-#[inline(always)]
-fn passes_content(side: Side, kind: Kind, verdict: Verdict) -> Option<Told>
-    ensures verdict { IfSome result (λ told. verdict ≡ Proceeds told None) }
-    ensures content { IfSome result IsOfContent }
-    ensures completes { IfSome result (λ told. told ≡ Told.Completed → role_of side ≡ Client
-        → is_reply kind ≡ false) }
-{
-    match verdict {
-        Verdict::Proceeds(Told::Completed, None) => {
-            if side.is_client() && kind.is_reply() {
-                return None;
-            }
-            Some(Told::Completed)
-        }
-        Verdict::Proceeds(Told::Headed, None) => Some(Told::Headed),
-        Verdict::Proceeds(Told::Continued, None) => Some(Told::Continued),
-        Verdict::Proceeds(_, _) => None,
-        Verdict::RefusesContent => None,
-        Verdict::Faults(_) => None,
-    }
-}
-
 impl Channel {
     /// The header of a content that is lent, where nothing changes beside the content.
     #[inline(always)]
@@ -336,6 +312,28 @@ impl Channel {
             Reading::Method(method) => self.passes_method(site, method),
             Reading::Header(header) => self.passes_header(site, header),
             Reading::Body(octets) => self.passes_body(site, octets),
+            Reading::UnknownMethod => None,
+            Reading::MalformedMethod => None,
+            Reading::MalformedHeader => None,
+            Reading::Heartbeat(_) => None,
+        }
+    }
+
+    /// The same where contents are gathered. It looks at a channel that is Open alone, so that what is done with the frame
+    /// needs not look again.
+    #[inline(always)]
+    pub(crate) fn passes_gathered(&self, site: Site, reading: Reading<'_>) -> Option<Told>
+        requires above { 0 < site.number }
+        requires within { site.number ≤ site.channel_max }
+        ensures { IfSome result (Passes site (channel_view self.now) (reading_view reading.entry)) }
+    {
+        let Channel::Open(life) = self else {
+            return None;
+        };
+        match reading {
+            Reading::Method(method) => self.passes_method(site, method),
+            Reading::Header(header) => life.passes_header(site, header),
+            Reading::Body(octets) => life.passes_body(site, octets),
             Reading::UnknownMethod => None,
             Reading::MalformedMethod => None,
             Reading::MalformedHeader => None,
@@ -612,8 +610,9 @@ impl Channel {
     }
 
     /// What a frame leaves that neither opens nor ends a life: a channel that is not Open stays as it is.
+    #[inline(always)]
     #[tactic(auto, using(crate::proofs::VerdictLemmas::none_whole_of))]
-    fn apply_open(
+    pub(crate) fn apply_open(
         &mut self,
         alloc: Global,
         side: Side,

@@ -62,6 +62,7 @@ impl Gathering {
     }
 
     /// The content whose body is all there. Nothing is kept any more.
+    #[inline(always)]
     pub(crate) fn take_whole(&mut self) -> Box<Content>
         requires { IsBodyDue self.old }
         ensures whole { IsKeptIn self.old result }
@@ -91,6 +92,7 @@ pub(crate) fn append_last(body: &mut Vec<u8>, octets: &[u8]) -> Result<(), OutOf
 
 impl Gathering {
     /// Keeps a part of a body, after which more is due. Out of memory, all is as it was.
+    #[inline(always)]
     pub(crate) fn append(&mut self, octets: &[u8]) -> Result<(), OutOfMemory>
         ensures ok { OnOk result (gathering_view self.new ≡ continued_with (BodyOf octets.now)
             (gathering_view self.old)) }
@@ -105,6 +107,7 @@ impl Gathering {
     }
 
     /// The content that a part of its body makes whole. Nothing is kept of it any more. Out of memory, all is as it was.
+    #[inline(always)]
     pub(crate) fn finish(&mut self, octets: &[u8]) -> Result<Box<Content>, OutOfMemory>
         requires { IsWhole (whole_with (gathering_view self.old) octets.now) }
         ensures whole { IfOk result (λ content. whole_with (gathering_view self.old) octets.now
@@ -127,6 +130,7 @@ impl Gathering {
 
 impl Gathering {
     /// Takes the header that is due, after which the body is due. Out of memory, the header is due still.
+    #[inline(always)]
     pub(crate) fn head(&mut self, alloc: Global, header: HeaderRef<'_>) -> Result<(), OutOfMemory>
         requires { IsHeaderDue (gathering_view self.old) }
         ensures ok { OnOk result (gathering_view self.new ≡ headed_with (header_said header.entry)
@@ -166,6 +170,7 @@ impl Gathering {
 
     /// Keeps a header, after which the body is due: read where the content is, or, if it is long and has a table, as its
     /// octets.
+    #[inline(always)]
     fn keep_headed(
         &mut self,
         alloc: Global,

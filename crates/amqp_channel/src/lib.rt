@@ -34,7 +34,7 @@ pub mod words;
 
 pub use crate::aligned::Aligned;
 pub use crate::channel::Channel;
-pub use crate::channels::Channels;
+pub use crate::channels::{Channels, Passed};
 pub use crate::codes::CloseCode;
 pub use crate::deferred::Deferred;
 pub use crate::events::{Agreed, Event, Reason, lent_blocked_reason, lent_reason};

@@ -1,6 +1,6 @@
 //! The life of a channel that is Open: what is kept of it, what the rules say of the frames that belong to it, and what these
 //! leave.
-ghost use Rattle.std.specs.Prelude.{◌≡◌, ◌≢◌, ◌<◌, ◌≤◌, true, not, ℕ, List, length, None, Some, IfOk, IfSome, IsOk, OnOk, OnErr};
+ghost use Rattle.std.specs.Prelude.{◌≡◌, ◌≢◌, ◌<◌, ◌≤◌, true, false, not, ℕ, List, length, None, Some, IfOk, IfSome, IsOk, OnOk, OnErr};
 ghost use Rattle.amqp_method.specs.HeaderRefView.{lent_header};
 ghost use Rattle.amqp_method.specs.MethodRefView.{lent_call};
 ghost use Rattle.amqp_model.specs.End.Amounts.{header_octets};
@@ -9,7 +9,7 @@ ghost use Rattle.amqp_model.specs.End.Channels.{Open, new_life};
 ghost use Rattle.amqp_model.specs.End.FrameVerdict.{on_message};
 ghost use Rattle.amqp_model.specs.Wire.Gathering.{BodyDue, HeaderDue};
 ghost use Rattle.amqp_model.specs.Wire.Methods as methods;
-ghost use Rattle.amqp_model.specs.Wire.Methods.{carries_content as content_follows};
+ghost use Rattle.amqp_model.specs.Wire.Methods.{carries_content as content_follows, is_reply};
 ghost use Rattle.amqp_method.specs.Requests.{is_one_way};
 ghost use Rattle.amqp_model.specs.Wire.Notes.{Client, Server, is_client};
 ghost use Rattle.amqp_channel.specs.declared.verdict.Verdict.TheVariants.{Proceeds};
@@ -19,6 +19,7 @@ ghost use Rattle.amqp_channel.specs.Contents.ContentView.{content_there, content
 ghost use Rattle.amqp_channel.specs.Contents.GatheringView.{gathering_view};
 ghost use Rattle.amqp_channel.specs.ReadingView.{header_said, reading_view};
 ghost use Rattle.amqp_channel.specs.Roles.{role_of};
+ghost use Rattle.amqp_channel.specs.Verdict.Passing.{IsOfContent, Passes};
 ghost use Rattle.amqp_channel.specs.Verdict.VerdictView.{asked_with, replies_in, told_in, verdict_view, whole_at, whole_of, whole_with, FitsTold, IsDiscarded, IsFlow, IsHeaderDue, IsWhole, MessageRules, Rules, RulesByState, TellsMessage};
 
 use crate::codes::CloseCode;
@@ -109,6 +110,29 @@ pub(crate) fn judge_part(site: Site, size: u64, came: u64, octets: &[u8]) -> Ver
     }
 }
 
+/// What a frame of a content tells that has this verdict, where the content answers no request with it.
+#[inline(always)]
+pub(crate) fn passes_content(side: Side, kind: Kind, verdict: Verdict) -> Option<Told>
+    ensures verdict { IfSome result (λ told. verdict ≡ Proceeds told None) }
+    ensures content { IfSome result IsOfContent }
+    ensures completes { IfSome result (λ told. told ≡ Told.Completed → role_of side ≡ Client
+        → is_reply kind ≡ false) }
+{
+    match verdict {
+        Verdict::Proceeds(Told::Completed, None) => {
+            if side.is_client() && kind.is_reply() {
+                return None;
+            }
+            Some(Told::Completed)
+        }
+        Verdict::Proceeds(Told::Headed, None) => Some(Told::Headed),
+        Verdict::Proceeds(Told::Continued, None) => Some(Told::Continued),
+        Verdict::Proceeds(_, _) => None,
+        Verdict::RefusesContent => None,
+        Verdict::Faults(_) => None,
+    }
+}
+
 impl Life {
     ghost use Rattle.amqp_channel.specs.Channel.LifeView.{life_view, IsIdle, IsOther};
 
@@ -180,6 +204,45 @@ impl Life {
             Verdict::Proceeds(_, Some(_)) => None,
             Verdict::RefusesContent => None,
             Verdict::Faults(_) => None,
+        }
+    }
+
+    /// The header of a content that is gathered, where nothing changes beside the content.
+    #[inline(always)]
+    pub(crate) fn passes_header(&self, site: Site, header: HeaderRef<'_>) -> Option<Told>
+        requires above { 0 < site.number }
+        requires within { site.number ≤ site.channel_max }
+        ensures { IfSome result (Passes site (Open (life_view self.now))
+            (HeaderOf (lent_header header.entry).body_size (lent_header header.entry).properties)) }
+    {
+        match &self.content {
+            Gathering::HeaderDue(content) => {
+                passes_content(site.side, content.kind(), judge_awaited(site, header))
+            }
+            Gathering::Nothing | Gathering::BodyDue(_) | Gathering::Deferred(_) => None,
+        }
+    }
+
+    /// A part of the body of a content that is gathered, where nothing changes beside the content. Where its header is
+    /// kept as its octets, the rules are asked.
+    #[inline(always)]
+    pub(crate) fn passes_body(&self, site: Site, octets: &[u8]) -> Option<Told>
+        requires above { 0 < site.number }
+        requires within { site.number ≤ site.channel_max }
+        ensures { IfSome result (Passes site (Open (life_view self.now)) (BodyOf octets.now)) }
+    {
+        match &self.content {
+            Gathering::BodyDue(content) => passes_content(
+                site.side,
+                content.kind(),
+                judge_part(
+                    site,
+                    content.header.body_size,
+                    content.body.len() as u64,
+                    octets,
+                ),
+            ),
+            Gathering::Nothing | Gathering::HeaderDue(_) | Gathering::Deferred(_) => None,
         }
     }
 
@@ -271,6 +334,7 @@ impl Life {
     ghost use Rattle.amqp_channel.specs.Channel.LifeView.{life_view, IsIdle, IsOther};
 
     /// A server keeps a request that it takes.
+    #[inline(always)]
     fn keep_asked(
         &mut self,
         alloc: Global,
@@ -288,6 +352,7 @@ impl Life {
     }
 
     /// A method without content: a client's reply takes its request away, and a server keeps a request.
+    #[inline(always)]
     fn apply_method(
         &mut self,
         alloc: Global,
@@ -310,6 +375,7 @@ impl Life {
     }
 
     /// A method begins a content. Out of memory, none is begun.
+    #[inline(always)]
     fn begin(&mut self, alloc: Global, side: Side, method: MethodRef<'_>) -> Result<(), OutOfMemory>
         requires { content_follows (lent_call method) ≡ true }
         ensures ok { OnOk result (life_view self.new ≡ told_in (role_of side) (Calls (lent_call method.entry))
@@ -324,6 +390,7 @@ impl Life {
     }
 
     /// A part of a body, after which more is due.
+    #[inline(always)]
     #[tactic(auto, using(crate::proofs::HeaderLemmas::header_continued))]
     fn fill(&mut self, side: Side, octets: &[u8]) -> Result<(), OutOfMemory>
         ensures ok { OnOk result (life_view self.new ≡ told_in (role_of side) (BodyOf octets.now) Told.Continued
@@ -334,6 +401,7 @@ impl Life {
     }
 
     /// A header, after which the body is due.
+    #[inline(always)]
     fn keep_header(
         &mut self,
         alloc: Global,
@@ -353,6 +421,7 @@ impl Life {
     }
 
     /// The header of a content without a body, which is whole. A client's reply takes its request away.
+    #[inline(always)]
     fn finish_header(
         &mut self,
         alloc: Global,
@@ -366,16 +435,17 @@ impl Life {
             Told.Completed (life_view self.old)) }
         ensures err { OnErr result (life_view self.new ≡ life_view self.old) }
     {
-        let replies = self.replies();
+        let replies = side.is_client() && self.replies();
         let content = self.content.finish_header(alloc, header)?;
         self.header = 0;
-        if side.is_client() && replies {
+        if replies {
             self.standing.answer_request();
         }
         Ok(content)
     }
 
     /// The last part of a body. A client's reply takes its request away.
+    #[inline(always)]
     fn finish(&mut self, side: Side, octets: &[u8]) -> Result<Box<Content>, OutOfMemory>
         requires { IsWhole (whole_with (life_view self.old).content octets.now) }
         ensures whole { IfOk result (λ content. whole_with (life_view self.old).content octets.now
@@ -384,10 +454,10 @@ impl Life {
             (life_view self.old)) }
         ensures err { OnErr result (life_view self.new ≡ life_view self.old) }
     {
-        let replies = self.replies();
+        let replies = side.is_client() && self.replies();
         let content = self.content.finish(octets)?;
         self.header = 0;
-        if side.is_client() && replies {
+        if replies {
             self.standing.answer_request();
         }
         Ok(content)
@@ -424,6 +494,7 @@ impl Life {
     ghost use Rattle.amqp_channel.specs.Channel.LifeView.{life_view, IsIdle, IsOther};
 
     /// The frame that makes a content whole: the last part of its body, or its header.
+    #[inline(always)]
     fn finish_content(
         &mut self,
         alloc: Global,
@@ -449,6 +520,7 @@ impl Life {
     }
 
     /// A frame that neither opens nor ends the life. What is answered is the content that the frame makes whole.
+    #[inline(always)]
     pub(crate) fn apply(
         &mut self,
         alloc: Global,

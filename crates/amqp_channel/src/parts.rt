@@ -125,6 +125,7 @@ impl EventParts {
     }
 
     /// What a frame of a channel tells, where the caller has room for it. The frame makes this content whole, if any.
+    #[inline(always)]
     pub fn tell(
         alloc: Global,
         number: u16,

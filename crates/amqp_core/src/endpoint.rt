@@ -38,6 +38,7 @@ ghost use Rattle.amqp_channel.specs.Events.PartsView.{parts_there};
 ghost use Rattle.amqp_core.specs.End.Feeding.{event_in, ran_out_of, IsFed, IsMessage, SameButChannels, SameEndpoint};
 ghost use Rattle.amqp_core.specs.Config.Settings.{config_view, role_for};
 ghost use Rattle.amqp_core.specs.Connection.Stages.{agreed_at, phase_at};
+ghost use Rattle.amqp_core.specs.declared.stage.Stage.{Stage};
 
 use crate::account::Account;
 use crate::allowing::Place;
@@ -52,8 +53,8 @@ use crate::owed::Owed;
 use crate::settings::Settings;
 use crate::stage::Stage;
 use crate::tally::Tally;
-use amqp_channel::{EventParts, Side};
-use amqp_frame::{PROTOCOL_HEADER, Splitter, faults_are_judged, one_frame_at_start};
+use amqp_channel::{Agreed, EventParts, Side};
+use amqp_frame::{OVERHEAD, PROTOCOL_HEADER, Splitter, faults_are_judged, one_frame_at_start};
 use amqp_method::{Method, Properties};
 use amqp_model::{bounds, controls, fitting, octets, one_end, pieces};
 use amqp_outbox::{BodyWriter, Chunks, ContentFrames, Outbox};
@@ -176,8 +177,8 @@ impl Endpoint {
         Err(CoreFault::Fatal)
     }
 
-    /// Octets of frames. It stands where it is called, which spares each frame the way there.
-    #[inline(always)]
+    /// Octets of frames, whatever they are.
+    #[inline(never)]
     fn read(
         &mut self,
         piece: &[u8],
@@ -243,6 +244,65 @@ impl Endpoint {
         answer
     }
 
+    /// Octets of frames, on a connection that is Running. It stands where it is called, which spares each frame the way
+    /// there.
+    #[inline(always)]
+    fn read_running(
+        &mut self,
+        piece: &[u8],
+        agreed: Agreed,
+        account: &mut Account,
+        heard: &mut Heard,
+    ) -> Result<(), CoreFault>
+        requires sound { EndpointIsSound self.old }
+        requires gathers { self.old.connection.settings.lends ≡ false }
+        requires fresh { IsFresh account.old }
+        requires running { self.old.connection.stage ≡ Stage.Running agreed }
+        ensures fed { IsFed (taken_by result account.new) (endpoint_view self.old) (after_feed (role_at self.old)
+            (config_view self.old.connection.settings) (endpoint_view self.old) piece.now) (endpoint_view self.new) }
+        // A frame that is dropped takes no memory, where it lies whole in the piece.
+        ensures in_place { DropsInPlace (role_at self.old) (endpoint_view self.old) piece.now → IsOk result }
+        ensures account { ran_out result ≡ false
+            → IsAccount (role_at self.old) (config_view self.old.connection.settings) (endpoint_view self.old)
+            piece.now (after_feed (role_at self.old) (config_view self.old.connection.settings)
+            (endpoint_view self.old) piece.now) account.new.octets (came_by self.old.connection.settings account.new
+            (event_in (taken_by result account.new))) }
+        // A message that is told leaves all but its channel as it was.
+        ensures message { OnOk result (IsMessage (parts_there account.new.parts)
+            → SameButChannels (endpoint_view self.old) (endpoint_view self.new)) }
+        ensures heard { Hears (role_at self.old) (config_view self.old.connection.settings) result
+            (endpoint_view self.old) piece.now (after_feed (role_at self.old) (config_view self.old.connection.settings)
+            (endpoint_view self.old) piece.now) (heard_view heard.old) (heard_view heard.new) }
+        ensures grows { GrowsLittle (endpoint_view self.old).output (endpoint_view self.new).output }
+        ensures sound { EndpointIsSound self.new }
+        ensures settings { self.new.connection.settings ≡ self.old.connection.settings }
+        ensures tally { Blames (role_at self.old) result (endpoint_view self.old) piece.now
+            (after_feed (role_at self.old) (config_view self.old.connection.settings) (endpoint_view self.old)
+            piece.now)
+            (tally_view self.old.tally) (tally_view self.new.tally) }
+    {
+        pieces::pieces_are_split();
+        pieces::unfinished_is_held();
+        fitting::agreed_is_within();
+        bounds::ends_are_bounded();
+        one_frame_at_start();
+        octets::judged_is_said();
+        faults_are_judged();
+        fitting::frames_are_within();
+        let Some(frame) = self.splitter.take_whole(piece) else {
+            let answer = self.read(piece, account, heard);
+            return answer;
+        };
+        let octets = frame.payload.len() + OVERHEAD;
+        account.octets = octets;
+        self.tally.count(octets);
+        let answer = self
+            .connection
+            .receive(&mut self.outbox, frame, account, &mut self.tally, heard);
+        tune(&mut self.splitter, self.connection.stage);
+        answer
+    }
+
     /// An end as it begins: a client has the protocol header to write, a server nothing.
     pub(crate) fn new(alloc: Global, settings: Settings) -> Result<Endpoint, OutOfMemory>
         requires { ConfigWrites (config_view settings) }
@@ -300,6 +360,9 @@ impl Endpoint {
             (tally_view self.old.tally) (tally_view self.new.tally) }
     {
         octets::cut_changes_nothing();
+        if let Some(agreed) = self.connection.stage.running() {
+            return self.read_running(piece, agreed, account, heard);
+        }
         if self.connection.stage.is_closed() {
             return Err(CoreFault::Closed);
         }
@@ -309,7 +372,8 @@ impl Endpoint {
         if self.awaits_header() {
             return self.hear(piece, account);
         }
-        self.read(piece, account, heard)
+        let answer = self.read(piece, account, heard);
+        answer
     }
 
     /// Out of memory: the end has failed, and keeps no unfinished octets.

@@ -38,6 +38,7 @@ pub struct Note {
 }
 
 /// What a method is to its channel.
+#[inline(always)]
 fn word_of_method(method: MethodRef<'_>) -> Word
     ensures { word_view result ≡ word_of (kind_of (Calls (lent_call method.entry))) }
 {
@@ -53,6 +54,7 @@ fn word_of_method(method: MethodRef<'_>) -> Word
 }
 
 /// What a frame is to its channel.
+#[inline(always)]
 fn word_of_reading(reading: Reading<'_>) -> Word
     ensures { word_view result ≡ word_of (kind_of (reading_view reading.entry)) }
 {
@@ -81,6 +83,7 @@ impl Note {
     }
 
     /// The note of a frame that is taken on a channel, and says this.
+    #[inline(always)]
     pub(crate) fn taken(channel: u16, reading: Reading<'_>) -> Note
         ensures { note_view result ≡ noted_as IsTaken channel (word_of (kind_of (reading_view reading.entry))) }
     {

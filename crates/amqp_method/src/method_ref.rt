@@ -106,6 +106,7 @@ impl<'a> MethodRef<'a> {
     }
 
     /// The same method with arguments of its own. Nothing is checked again, so it fails for memory alone.
+    #[inline(always)]
     pub fn to_owned(self, alloc: Global) -> Result<Method, OutOfMemory>
         ensures { IfOk result (λ m. method_view m ≡ lent_call self.entry) }
     {

@@ -11,7 +11,7 @@ use Rattle.amqp_channel.specs.Contents.ContentView.{content_there}
 use Rattle.amqp_channel.specs.Roles.{role_of}
 use Rattle.amqp_channel.specs.Channels.Used.{is_closing_at}
 use Rattle.amqp_channel.specs.Verdict.Passing.{Passes}
-use Rattle.amqp_channel.specs.Verdict.VerdictView.{handed_out, left_by, told_on, Drops}
+use Rattle.amqp_channel.specs.Verdict.VerdictView.{handed_out, left_by, told_on, whole_now, whole_of, Drops}
 use Rattle.amqp_channel.specs.declared.channels.Channels.{Channels}
 use Rattle.amqp_channel.specs.declared.side.Side.{Side}
 use Rattle.amqp_channel.specs.declared.site.Site.{Site}
@@ -58,5 +58,19 @@ pub record PassesLent (site : Site) (reading : Reading) (old : Channels) (said :
   pub left :
       AlikeChannels (told_on (role_of site.side) reading said (channels_view old site.number))
       (channels_view new site.number)
+  -- Every other channel stays as it was.
+  pub others : OnlyAt site.number (channels_view old) (channels_view new)
+
+-- The same where contents are gathered: the content under way goes on, and the one that is whole is answered.
+pub record PassesGathered (site : Site) (reading : Reading) (old : Channels) (said : Told)
+    (whole : Option (Box Content Global)) (new : Channels) : Type 0 where
+  -- The rules let it through, and it tells of a message.
+  pub passes : Passes site (channels_view old site.number) reading said
+  -- The channel is left as the frame leaves it.
+  pub left :
+      channels_view new site.number
+      ≡ told_on (role_of site.side) reading said (channels_view old site.number)
+  -- The content is the one that the frame makes whole, if it makes one whole.
+  pub content : content_there whole ≡ whole_of said (whole_now (channels_view old site.number) reading)
   -- Every other channel stays as it was.
   pub others : OnlyAt site.number (channels_view old) (channels_view new)

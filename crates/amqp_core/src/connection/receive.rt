@@ -1,6 +1,6 @@
 //! A frame that an end takes: what the rules say of it (`rules`) is carried out. The state changes, the event is told, and
 //! what is owed is put.
-ghost use Rattle.std.specs.Prelude.{◌≡◌, true, false, ℕ, [], map, Some, None, Option, IfOk, IsOk, OnErr, OnOk};
+ghost use Rattle.std.specs.Prelude.{◌≡◌, ◌<◌, true, false, ℕ, [], map, Some, None, Option, IfOk, IfSome, IsOk, OnErr, OnOk};
 ghost use Rattle.amqp_model.specs.End.Channels.{Channel};
 ghost use Rattle.amqp_model.specs.Wire.Contents as contents;
 ghost use Rattle.amqp_model.specs.End.EndVerdict.{takes_frames};
@@ -22,7 +22,9 @@ ghost use Rattle.amqp_core.specs.Connection.Stages.{leaves, phase_at};
 ghost use Rattle.amqp_core.specs.Connection.Outcomes.{owed_by};
 ghost use Rattle.amqp_core.specs.Connection.Owed.{owed_view, IsNothing};
 ghost use Rattle.amqp_core.specs.Connection.Verdicts.{event_by, fault_by, fault_there, noticed, outcome_with, verdict_view, FitsEventOf, FitsNotice, IsLight, IsLightNotice};
+ghost use Rattle.amqp_core.specs.declared.owed.Owed.{Owed};
 ghost use Rattle.amqp_core.specs.declared.settings.Settings.{Settings};
+ghost use Rattle.amqp_core.specs.declared.stage.Stage.{Stage};
 
 use crate::account::Account;
 use crate::connection::Connection;
@@ -37,8 +39,8 @@ use crate::tally::Tally;
 use crate::verdict::{Fault, Notice, Verdict};
 use amqp_channel::words::same;
 use amqp_channel::{
-    Aligned, CloseCode, EventParts, Reading, Verdict as ChannelVerdict, lent_blocked_reason,
-    lent_reason,
+    Agreed, Aligned, CloseCode, EventParts, Passed, Reading, Told, Verdict as ChannelVerdict,
+    lent_blocked_reason, lent_reason,
 };
 use amqp_frame::FrameRef;
 use amqp_method::Content;
@@ -146,6 +148,7 @@ fn tell_notice(
 }
 
 /// What a frame of a channel tells, where the caller has room for it. The frame makes this content whole, if any.
+#[inline(always)]
 fn tell_on(
     alloc: Global,
     number: u16,
@@ -225,7 +228,13 @@ impl Connection {
     ghost use Rattle.amqp_core.specs.Faults.Answering.{EndsAs, PutsAs};
     ghost use Rattle.amqp_core.specs.Faults.Blamed.{blames_frame, tally_view};
     ghost use Rattle.amqp_core.specs.Config.Settings.{config_view};
-    ghost use Rattle.amqp_core.specs.Connection.Verdicts.{content_of, end_left, ended_if, verdict_here, FitsVerdict, StepsFrom};
+    ghost use Rattle.amqp_core.specs.Connection.Verdicts.{content_of, end_left, ended_if, verdict_here, FitsVerdict, FrameRules, StepsFrom};
+    ghost use Rattle.amqp_channel.specs.Channels.Used.{is_closing_at};
+    ghost use Rattle.amqp_channel.specs.Verdict.VerdictView.{IsPart};
+    ghost use Rattle.amqp_channel.specs.declared.verdict.Verdict.TheVariants.{Proceeds};
+    ghost use Rattle.amqp_model.specs.Stream.Traces.{word_of};
+    ghost use Rattle.amqp_model.specs.Wire.Readings.{kind_of};
+    ghost use Rattle.amqp_core.specs.Traced.Notes.{noted_as};
 
     /// Leaves the connection as a frame of its own with this verdict does.
     pub(crate) fn apply_own(&mut self, verdict: Verdict)
@@ -359,8 +368,275 @@ impl Connection {
         Ok(())
     }
 
+    /// Takes a frame of a channel that says this, if it passes: it owes no reply, and changes at most the content under
+    /// way. Otherwise nothing is done.
+    #[inline(always)]
+    fn pass_on(
+        &mut self,
+        agreed: Agreed,
+        number: u16,
+        reading: Reading<'_>,
+    ) -> Result<Option<Passed>, OutOfMemory>
+        requires above { 0 < number }
+        requires running { self.old.stage ≡ Stage.Running agreed }
+        requires gathers { self.old.settings.lends ≡ false }
+        ensures rules { IfOk result (λ passed. IfSome passed (λ it. FrameRules self.old.settings
+            (connection_end self.old) number (reading_view reading.entry) (OnChannel (Proceeds it.told None)))) }
+        ensures left { IfOk result (λ passed. IfSome passed (λ it. connection_end self.new
+            ≡ end_left (role_for self.old.settings) number (reading_view reading.entry)
+            (OnChannel (Proceeds it.told None)) (connection_end self.old))) }
+        ensures content { IfOk result (λ passed. IfSome passed (λ it. content_there it.content
+            ≡ content_of (OnChannel (Proceeds it.told None)) (channels_view self.old.channels number)
+            (reading_view reading.entry))) }
+        ensures settings { self.new.settings ≡ self.old.settings }
+        ensures stage { self.new.stage ≡ self.old.stage }
+        ensures none { IfOk result (λ passed. passed ≡ None → self.new ≡ self.old) }
+        ensures drops { is_closing_at (channels_view self.old.channels number) ≡ true
+            → IsPart (reading_view reading.entry) → IsOk result }
+    {
+        let site = self.site(number, agreed.channel_max);
+        match self.channels.pass(self.alloc, site, reading) {
+            Ok(Some(passed)) => Ok(Some(passed)),
+            Ok(None) => Ok(None),
+            Err(_) => Err(OutOfMemory),
+        }
+    }
+
+    /// The same, and its event is told.
+    #[inline(always)]
+    fn pass_told(
+        &mut self,
+        agreed: Agreed,
+        number: u16,
+        reading: Reading<'_>,
+        account: &mut Account,
+        heard: &mut Heard,
+    ) -> Result<Option<Told>, OutOfMemory>
+        requires above { 0 < number }
+        requires running { self.old.stage ≡ Stage.Running agreed }
+        requires gathers { self.old.settings.lends ≡ false }
+        requires none { account.old.parts ≡ None }
+        ensures rules { IfOk result (λ passed. IfSome passed (λ told. FrameRules self.old.settings
+            (connection_end self.old) number (reading_view reading.entry) (OnChannel (Proceeds told None)))) }
+        ensures left { IfOk result (λ passed. IfSome passed (λ told. connection_end self.new
+            ≡ end_left (role_for self.old.settings) number (reading_view reading.entry)
+            (OnChannel (Proceeds told None)) (connection_end self.old))) }
+        ensures event { IfOk result (λ passed. IfSome passed (λ told. parts_there account.new.parts
+            ≡ event_by number (verdict_here self.old.settings (connection_end self.old) number
+            (reading_view reading.entry) (OnChannel (Proceeds told None))))) }
+        ensures heard { IfOk result (λ passed. IfSome passed (λ told. heard_view heard.new ≡ said_by Running number
+            (reading_view reading.entry) (OnChannel (Proceeds told None)) (heard_view heard.old))) }
+        ensures took { IfOk result (λ passed. IfSome passed (λ told. note_there account.new.took
+            ≡ Some (noted_as IsTaken number (word_of (kind_of (reading_view reading.entry)))))) }
+        ensures owed { IfOk result (λ passed. IfSome passed (λ told. account.new.owed ≡ Owed.Nothing)) }
+        ensures octets { account.new.octets ≡ account.old.octets }
+        ensures settings { self.new.settings ≡ self.old.settings }
+        ensures stage { self.new.stage ≡ self.old.stage }
+        ensures none { IfOk result (λ passed. passed ≡ None → self.new ≡ self.old) }
+        ensures none_told { IfOk result (λ passed. passed ≡ None → account.new ≡ account.old) }
+        ensures none_heard { IfOk result (λ passed. passed ≡ None → heard.new ≡ heard.old) }
+        ensures drops { is_closing_at (channels_view self.old.channels number) ≡ true
+            → IsPart (reading_view reading.entry) → IsOk result }
+    {
+        let Some(passed) = self.pass_on(agreed, number, reading)? else {
+            return Ok(None);
+        };
+        let Passed { told, content } = passed;
+        let verdict = ChannelVerdict::Proceeds(told, None);
+        keep_cause(reading, verdict, heard);
+        account.took = Some(Note::taken(number, reading));
+        account.owed = Owed::Nothing;
+        tell_on(
+            self.alloc,
+            number,
+            reading,
+            verdict,
+            content,
+            &mut account.parts,
+        )?;
+        Ok(Some(told))
+    }
+
+    /// Takes a frame that says this, if it passes: it owes no reply, and changes at most the content under way. Otherwise
+    /// nothing is done.
+    #[inline(always)]
+    fn pass(
+        &mut self,
+        outbox: &Outbox,
+        frame: FrameRef<'_>,
+        reading: Reading<'_>,
+        account: &mut Account,
+        heard: &mut Heard,
+    ) -> Option<Result<(), CoreFault>>
+        requires gathers { self.old.settings.lends ≡ false }
+        requires staged { outbox.now.staged ≡ [] }
+        requires none { account.old.parts ≡ None }
+        requires says { reading_view reading ≡ says (lent frame) }
+        ensures said { IfSome result (λ answer. AnswersFrame (answer_with answer (parts_there account.new.parts))
+            (outcome_of (facts_at (config_view self.old.settings) (connection_end self.old) (lent frame.entry).channel)
+            (end_verdict (config_view self.old.settings) (connection_end self.old) (lent frame.entry)))) }
+        ensures end { IfSome result (λ answer. EndsAs answer (connection_end self.old)
+            (end_after_taken (role_for self.old.settings) (config_view self.old.settings) (connection_end self.old)
+            (says (lent frame.entry)) (lent frame.entry)) (connection_end self.new)) }
+        ensures output { IfSome result (λ answer. PutsAs answer outbox.now.output
+            (after_puts (end_puts (config_view self.old.settings) (connection_end self.old) (lent frame.entry))
+            outbox.now.output) outbox.now) }
+        // A frame that is dropped takes no memory.
+        ensures alone { IfSome result (λ answer. IsDropped (phase_at self.old.stage)
+            (channels_view self.old.channels (lent frame.entry).channel) (lent frame.entry).channel
+            (lent frame.entry).kind (lent frame.entry).payload → IsOk answer) }
+        // A message that is told is not answered, and leaves all but its channel as it was.
+        ensures message { IfSome result (λ answer. OnOk answer (IsMessage (parts_there account.new.parts)
+            → SameButChannels
+            (record { end = connection_end self.old; unfinished = []; output = outbox.now.output })
+            (record { end = connection_end self.new; unfinished = []; output = outbox.now.output }))) }
+        ensures octets { account.new.octets ≡ account.old.octets }
+        ensures took { IfSome result (λ answer. note_there account.new.took
+            ≡ Some (noted IsTaken (lent frame.entry))) }
+        ensures owed { IfSome result (λ answer. ran_out answer ≡ false
+            → owed_view self.old.settings account.new.owed ≡ methods_put
+            (facts_at (config_view self.old.settings) (connection_end self.old) (lent frame.entry).channel)
+            (end_verdict (config_view self.old.settings) (connection_end self.old) (lent frame.entry))) }
+        ensures heard { IfSome result (λ answer. ran_out answer ≡ false → heard_view heard.new
+            ≡ said_after (config_view self.old.settings) (connection_end self.old) (lent frame.entry)
+            (heard_view heard.old)) }
+        ensures at_fault { IfSome result (λ answer. ran_out answer ≡ false
+            → OnErr answer (heard_view heard.new ≡ heard_view heard.old)) }
+        ensures faultless { IfSome result (λ answer. code_found answer ≡ None) }
+        ensures settings { self.new.settings ≡ self.old.settings }
+        ensures none { result ≡ None → self.new ≡ self.old }
+        ensures none_told { result ≡ None → account.new ≡ account.old }
+        ensures none_heard { result ≡ None → heard.new ≡ heard.old }
+    {
+        let Some(agreed) = self.agreed_on(frame.channel) else {
+            return None;
+        };
+        match self.pass_told(agreed, frame.channel, reading, account, heard) {
+            Ok(Some(_)) => Some(Ok(())),
+            Ok(None) => None,
+            Err(_) => {
+                account.took = Some(Note::taken(frame.channel, reading));
+                self.fail_at(self.stage);
+                Some(Err(CoreFault::OutOfMemory))
+            }
+        }
+    }
+
+    /// Takes a frame that says this: most pass, and the rules are asked of the others.
+    #[inline(always)]
+    fn receive_said(
+        &mut self,
+        outbox: &mut Outbox,
+        frame: FrameRef<'_>,
+        reading: Reading<'_>,
+        account: &mut Account,
+        tally: &mut Tally,
+        heard: &mut Heard,
+    ) -> Result<(), CoreFault>
+        requires gathers { self.old.settings.lends ≡ false }
+        requires taking { takes_frames (phase_at self.old.stage) ≡ true }
+        requires staged { outbox.old.staged ≡ [] }
+        requires none { account.old.parts ≡ None }
+        requires says { reading_view reading ≡ says (lent frame) }
+        ensures said { AnswersFrame (answer_with result (parts_there account.new.parts)) (outcome_of
+            (facts_at (config_view self.old.settings) (connection_end self.old) (lent frame.entry).channel)
+            (end_verdict (config_view self.old.settings) (connection_end self.old) (lent frame.entry))) }
+        ensures end { EndsAs result (connection_end self.old)
+            (end_after_taken (role_for self.old.settings) (config_view self.old.settings) (connection_end self.old)
+            (says (lent frame.entry)) (lent frame.entry)) (connection_end self.new) }
+        ensures output { PutsAs result outbox.old.output
+            (after_puts (end_puts (config_view self.old.settings) (connection_end self.old) (lent frame.entry))
+            outbox.old.output) outbox.new }
+        // A frame that is dropped takes no memory.
+        ensures alone { IsDropped (phase_at self.old.stage) (channels_view self.old.channels (lent frame.entry).channel)
+            (lent frame.entry).channel (lent frame.entry).kind (lent frame.entry).payload → IsOk result }
+        // A message that is told is not answered, and leaves all but its channel as it was.
+        ensures message { OnOk result (IsMessage (parts_there account.new.parts) → SameButChannels
+            (record { end = connection_end self.old; unfinished = []; output = outbox.old.output })
+            (record { end = connection_end self.new; unfinished = []; output = outbox.new.output })) }
+        ensures octets { account.new.octets ≡ account.old.octets }
+        ensures took { note_there account.new.took ≡ Some (noted IsTaken (lent frame.entry)) }
+        ensures owed { ran_out result ≡ false → owed_view self.old.settings account.new.owed ≡ methods_put
+            (facts_at (config_view self.old.settings) (connection_end self.old) (lent frame.entry).channel)
+            (end_verdict (config_view self.old.settings) (connection_end self.old) (lent frame.entry)) }
+        ensures heard { ran_out result ≡ false → heard_view heard.new ≡ said_after (config_view self.old.settings)
+            (connection_end self.old) (lent frame.entry) (heard_view heard.old) }
+        ensures at_fault { ran_out result ≡ false → OnErr result (heard_view heard.new ≡ heard_view heard.old) }
+        ensures settings { self.new.settings ≡ self.old.settings }
+        ensures tally { tally_view tally.new
+            ≡ blames_frame (code_found result) (lent frame.entry) (tally_view tally.old) }
+    {
+        if let Some(answer) = self.pass(outbox, frame, reading, account, heard) {
+            return answer;
+        }
+        let answer = self.receive_by_rules(outbox, frame, reading, account, tally, heard);
+        answer
+    }
+
+    /// Takes a frame that says this, as the rules have it.
+    #[inline(never)]
+    fn receive_by_rules(
+        &mut self,
+        outbox: &mut Outbox,
+        frame: FrameRef<'_>,
+        reading: Reading<'_>,
+        account: &mut Account,
+        tally: &mut Tally,
+        heard: &mut Heard,
+    ) -> Result<(), CoreFault>
+        requires gathers { self.old.settings.lends ≡ false }
+        requires taking { takes_frames (phase_at self.old.stage) ≡ true }
+        requires staged { outbox.old.staged ≡ [] }
+        requires none { account.old.parts ≡ None }
+        requires says { reading_view reading ≡ says (lent frame) }
+        ensures said { AnswersFrame (answer_with result (parts_there account.new.parts)) (outcome_of
+            (facts_at (config_view self.old.settings) (connection_end self.old) (lent frame.entry).channel)
+            (end_verdict (config_view self.old.settings) (connection_end self.old) (lent frame.entry))) }
+        ensures end { EndsAs result (connection_end self.old)
+            (end_after_taken (role_for self.old.settings) (config_view self.old.settings) (connection_end self.old)
+            (says (lent frame.entry)) (lent frame.entry)) (connection_end self.new) }
+        ensures output { PutsAs result outbox.old.output
+            (after_puts (end_puts (config_view self.old.settings) (connection_end self.old) (lent frame.entry))
+            outbox.old.output) outbox.new }
+        // A frame that is dropped takes no memory.
+        ensures alone { IsDropped (phase_at self.old.stage) (channels_view self.old.channels (lent frame.entry).channel)
+            (lent frame.entry).channel (lent frame.entry).kind (lent frame.entry).payload → IsOk result }
+        // A message that is told is not answered, and leaves all but its channel as it was.
+        ensures message { OnOk result (IsMessage (parts_there account.new.parts) → SameButChannels
+            (record { end = connection_end self.old; unfinished = []; output = outbox.old.output })
+            (record { end = connection_end self.new; unfinished = []; output = outbox.new.output })) }
+        ensures octets { account.new.octets ≡ account.old.octets }
+        ensures took { note_there account.new.took ≡ Some (noted IsTaken (lent frame.entry)) }
+        ensures owed { ran_out result ≡ false → owed_view self.old.settings account.new.owed ≡ methods_put
+            (facts_at (config_view self.old.settings) (connection_end self.old) (lent frame.entry).channel)
+            (end_verdict (config_view self.old.settings) (connection_end self.old) (lent frame.entry)) }
+        ensures heard { ran_out result ≡ false → heard_view heard.new ≡ said_after (config_view self.old.settings)
+            (connection_end self.old) (lent frame.entry) (heard_view heard.old) }
+        ensures at_fault { ran_out result ≡ false → OnErr result (heard_view heard.new ≡ heard_view heard.old) }
+        ensures settings { self.new.settings ≡ self.old.settings }
+        ensures tally { tally_view tally.new
+            ≡ blames_frame (code_found result) (lent frame.entry) (tally_view tally.old) }
+    {
+        account.took = Some(Note::taken(frame.channel, reading));
+        let Some(agreed) = self.agreed_on(frame.channel) else {
+            return self.receive_own(outbox, frame, reading, account, tally, heard);
+        };
+        let verdict = self.judge_on(agreed, frame.channel, reading);
+        let Ok(()) = self.carry_out_on(outbox, frame.channel, reading, verdict, account, heard)
+        else {
+            self.fail_at(self.stage);
+            return Err(CoreFault::OutOfMemory);
+        };
+        let fault = fault_on(verdict);
+        self.fail_by(fault, frame, tally);
+        report(fault)
+    }
+
     /// Takes a frame. What the end owes is put, and what came of the frame, its event too, is accounted for. Out of
     /// memory, the end fails, and nothing is put.
+    ///
+    /// Each kind of frame goes its own way, so that what it says is not put into memory and looked at again.
+    #[inline(always)]
     pub(crate) fn receive(
         &mut self,
         outbox: &mut Outbox,
@@ -402,19 +678,27 @@ impl Connection {
             ≡ blames_frame (code_found result) (lent frame.entry) (tally_view tally.old) }
     {
         let reading = Reading::of(frame);
-        account.took = Some(Note::taken(frame.channel, reading));
-        let Some(agreed) = self.agreed_on(frame.channel) else {
-            return self.receive_own(outbox, frame, reading, account, tally, heard);
-        };
-        let verdict = self.judge_on(agreed, frame.channel, reading);
-        let Ok(()) = self.carry_out_on(outbox, frame.channel, reading, verdict, account, heard)
-        else {
-            self.fail_at(self.stage);
-            return Err(CoreFault::OutOfMemory);
-        };
-        let fault = fault_on(verdict);
-        self.fail_by(fault, frame, tally);
-        report(fault)
+        match reading {
+            Reading::Method(method) => {
+                let said = Reading::Method(method);
+                self.receive_said(outbox, frame, said, account, tally, heard)
+            }
+            Reading::Header(header) => {
+                let said = Reading::Header(header);
+                self.receive_said(outbox, frame, said, account, tally, heard)
+            }
+            Reading::Body(part) => {
+                let said = Reading::Body(part);
+                self.receive_said(outbox, frame, said, account, tally, heard)
+            }
+            Reading::UnknownMethod
+            | Reading::MalformedMethod
+            | Reading::MalformedHeader
+            | Reading::Heartbeat(_) => {
+                let answer = self.receive_by_rules(outbox, frame, reading, account, tally, heard);
+                answer
+            }
+        }
     }
 
     /// The same with a frame of the connection that says this. It stands apart, since few frames are.

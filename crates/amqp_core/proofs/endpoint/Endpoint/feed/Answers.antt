@@ -11,14 +11,22 @@ use Rattle.amqp_core.specs.Config.Settings.{config_view}
 use Rattle.amqp_core.proofs.BlameLemmas.{blames_nothing}
 use Rattle.amqp_core.proofs.HeardLemmas.{fault_heard, opening_heard}
 use Rattle.amqp_core.proofs.DropLemmas.{takes_some}
+use Rattle.amqp_core.proofs.WholeLemmas.{running_is}
 use Rattle.amqp_core.proofs.endpoint.Endpoint.feed.Goals as goal
 
 pub returns-clause-progress : goal.returns-clause-progress
 returns-clause-progress c =
     let old = c.args.self.now in
     let running : (connection_end old.connection).phase ≢ Failed = λ failed. true≢false (sym (c.if-is_failed.ensures.takes refl (c.if-is_closed.ensures.not refl)) ∙ ap takes_octets failed) in
-    takes_some (taken_by c.read.result c.read.new.account) (endpoint_view old) (after_feed (role_at old) (config_view old.connection.settings) (endpoint_view old) c.args.piece.now) _ c.args.piece.now c.read.ensures.fed
+    takes_some (taken_by c.read-answer.result c.read-answer.new.account) (endpoint_view old) (after_feed (role_at old) (config_view old.connection.settings) (endpoint_view old) c.args.piece.now) _ c.args.piece.now c.read-answer.ensures.fed
     (c.cut_changes_nothing.ensures.progress (role_at old) (config_view old.connection.settings) (endpoint_view old) c.args.piece.now (c.if-is_closed.ensures.not refl) running)
+
+pub returns-in-Some-clause-progress : goal.returns-in-Some-clause-progress
+returns-in-Some-clause-progress c =
+    let old = c.args.self.now in
+    let is = running_is old.connection.stage c.in-Some.agreed c.in-Some.ensures.running in
+    takes_some (taken_by c.read_running.result c.read_running.new.account) (endpoint_view old) (after_feed (role_at old) (config_view old.connection.settings) (endpoint_view old) c.args.piece.now) _ c.args.piece.now c.read_running.ensures.fed
+    (c.cut_changes_nothing.ensures.progress (role_at old) (config_view old.connection.settings) (endpoint_view old) c.args.piece.now is.0 is.1)
 
 pub returns-then-awaits_header-clause-progress : goal.returns-then-awaits_header-clause-progress
 returns-then-awaits_header-clause-progress c =
