@@ -2,7 +2,7 @@
 //!
 //! A channel is kept from its open to its end, and none that is Free is kept: memory is bounded by the channels in use,
 //! whatever their numbers are.
-ghost use Rattle.std.specs.Prelude.{◌≡◌, ◌≢◌, ◌+◌, ◌<◌, ◌≤◌, true, false, not, ℕ, suc, IfNone, IfOk, IfSome, IsOk, OnErr, OnOk, MatchOption, None};
+ghost use Rattle.std.specs.Prelude.{◌≡◌, ◌≢◌, ◌+◌, ◌<◌, true, false, not, ℕ, suc, IfNone, IfOk, IfSome, IsOk, OnErr, OnOk, MatchOption, None};
 ghost use Rattle.amqp_model.specs.End.Amounts.{IsSum};
 ghost use Rattle.amqp_model.specs.End.Asks.{is_free, first_free};
 ghost use Rattle.amqp_model.specs.End.Channels.{Free};

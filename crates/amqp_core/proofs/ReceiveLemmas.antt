@@ -1,8 +1,9 @@
 -- What a frame leaves of an end, and what comes of it, by its verdict.
-use Rattle.std.proofs.Common.{◌≡◌, ◌⊎◌, inl, inr, Bool, true, ℕ, List, [], ◌∷◌, map, Option, Some, None, Result, Ok, Err, OnOk, refl, ap, sym, ◌∙◌, subst}
+use Rattle.std.proofs.Common.{◌≡◌, ◌⊎◌, ◌<◌, inl, inr, Bool, true, arith, ℕ, List, [], ◌∷◌, map, Option, Some, None, Result, Ok, Err, OnOk, refl, ap, sym, ◌∙◌, subst}
 use Rattle.amqp_frame.specs.declared.frames.FrameKind.{FrameKind}
 use Rattle.amqp_frame.specs.declared.frames.FrameKind.TheVariants as kinds
-use Rattle.amqp_model.specs.End.Channels.{Channel, End, Phase}
+use Rattle.std.proofs.lemmas.Bool.{true≢false}
+use Rattle.amqp_model.specs.End.Channels.{Channel, End, Phase, Running}
 use Rattle.amqp_model.specs.End.Closes.{frame_of, reply_to}
 use Rattle.amqp_model.specs.End.EndVerdict.{end_puts, end_verdict, facts_at}
 use Rattle.amqp_model.specs.Stream.Endpoint.{outcome_of}
@@ -12,10 +13,10 @@ use Rattle.amqp_model.specs.End.FrameVerdict.{methods_put, on_channel}
 use Rattle.amqp_model.specs.End.Machine.{end_after_taken, set_channel, taken_verdict}
 use Rattle.amqp_model.specs.Wire.Methods.{Header, header_at}
 use Rattle.amqp_model.specs.Output.Outputs.{after_puts, Output}
-use Rattle.amqp_model.specs.Wire.Readings.{Reading, Calls, header_reading, reading as says}
+use Rattle.amqp_model.specs.Wire.Readings.{Reading, Beat, BodyOf, Calls, HeaderOf, MalformedHeader, header_reading, reading as says}
 use Rattle.amqp_outbox.specs.OutboxView.{Outgoing, only}
 use Rattle.amqp_channel.specs.Channels.Used.{is_closing_at}
-use Rattle.amqp_channel.specs.Verdict.VerdictView.{reply_there}
+use Rattle.amqp_channel.specs.Verdict.VerdictView.{reply_there, IsPart}
 use Rattle.amqp_channel.specs.Channels.ChannelsView.{OnlyAt}
 use Rattle.amqp_channel.specs.declared.verdict.Verdict.TheVariants as ruled
 use Rattle.amqp_channel.specs.declared.verdict.Told.TheVariants as told
@@ -225,3 +226,16 @@ drops_reading phase channel number kinds.Heartbeat [] (inl leaving) = inl leavin
 drops_reading phase channel number kinds.Heartbeat [] (inr at_zero) = inr (at_zero.0, refl)
 drops_reading phase channel number kinds.Heartbeat (octet ∷ later) (inl leaving) = inl leaving
 drops_reading phase channel number kinds.Heartbeat (octet ∷ later) (inr empty) = cc
+
+-- on a channel of a connection that is Running, this end has closed the channel, and the frame is a part of a content
+pub dropped_part : (channel : Channel) (number : ℕ) (reading : Reading) → DropsReading Running channel number reading → 0 < number
+    → (is_closing_at channel ≡ true) × IsPart reading
+dropped_part channel number (HeaderOf size properties) (inl leaving) above = absurd (true≢false (sym leaving))
+dropped_part channel number (HeaderOf size properties) (inr closing) above = (closing, tt)
+dropped_part channel number MalformedHeader (inl leaving) above = absurd (true≢false (sym leaving))
+dropped_part channel number MalformedHeader (inr closing) above = (closing, tt)
+dropped_part channel number (BodyOf octets) (inl leaving) above = absurd (true≢false (sym leaving))
+dropped_part channel number (BodyOf octets) (inr closing) above = (closing, tt)
+dropped_part channel number (Beat empty) (inl leaving) above = absurd (true≢false (sym leaving))
+dropped_part channel number (Beat empty) (inr at_zero) above = absurd (omega (arith, above, at_zero.0))
+dropped_part channel number reading drops above = absurd drops

@@ -11,5 +11,6 @@ pub mod Rulings
 pub mod Verdicts
 pub mod Outcomes
 pub mod Dropping
+pub mod Receiving
 pub mod Decisions
 pub mod OneChannel

@@ -1,5 +1,5 @@
 //! A piece that is taken by an end whose events lend.
-ghost use Rattle.std.specs.Prelude.{◌≡◌, ◌≢◌, ◌<◌, ◌≤◌, length, true, false, [], Option, Some, None, IfOk, IfSome, IsOk, OnErr};
+ghost use Rattle.std.specs.Prelude.{◌≡◌, ◌≢◌, ◌<◌, ◌≤◌, length, true, false, [], Option, Some, None, IfOk, IfSome, IsOk};
 ghost use Rattle.amqp_frame.specs.Frame.{lent, frame_length, Frame};
 ghost use Rattle.amqp_model.specs.Stream.Endpoint.{after_feed, awaits_opening};
 ghost use Rattle.amqp_model.specs.Stream.Pieces.{reads_frames};
@@ -37,22 +37,10 @@ fn buffered_frame(splitter: &Splitter) -> FrameRef<'_>
 }
 
 impl Endpoint {
-    ghost use Rattle.amqp_channel.specs.Channels.ChannelsView.{channels_view};
     ghost use Rattle.amqp_channel.specs.ReadingView.{reading_view};
-    ghost use Rattle.amqp_core.specs.Connection.Dropping.{IsDropped};
-    ghost use Rattle.amqp_core.specs.Config.Settings.{role_for};
-    ghost use Rattle.amqp_core.specs.Connection.View.{connection_end};
+    ghost use Rattle.amqp_core.specs.Connection.Receiving.{lent_by, ReceivesLent};
     ghost use Rattle.amqp_core.specs.End.EndpointView.{endpoint_view, role_at, EndpointIsSound};
-    ghost use Rattle.amqp_core.specs.Faults.Answering.{answer_with, AnswersFrame, PutsAs};
     ghost use Rattle.amqp_core.specs.Faults.Blamed.{blames_frame, code_found};
-    ghost use Rattle.amqp_core.specs.Heard.View.{said_after};
-    ghost use Rattle.amqp_core.specs.Stream.Lending.{EndsAlike};
-    ghost use Rattle.amqp_model.specs.End.EndVerdict.{end_puts, end_verdict, facts_at};
-    ghost use Rattle.amqp_model.specs.End.Machine.{end_after_taken};
-    ghost use Rattle.amqp_model.specs.Laws.OctetLaws.{event_of_frame};
-    ghost use Rattle.amqp_model.specs.Lent.Alike.{lent as lent_of, maybe_telling};
-    ghost use Rattle.amqp_model.specs.Output.Outputs.{after_puts};
-    ghost use Rattle.amqp_model.specs.Stream.Endpoint.{outcome_of};
     ghost use Rattle.amqp_model.specs.Wire.Readings.{reading as says};
 
     /// Octets of the protocol header, at a server that awaits it.
@@ -160,31 +148,13 @@ impl Endpoint {
         requires running { self.old.connection.stage ≡ Stage.Running agreed }
         requires staged { self.old.outbox.staged ≡ [] }
         requires says { reading_view reading ≡ says (lent frame) }
-        ensures said { IfSome result (λ step. AnswersFrame
-            (answer_with (passed step) (event_of_frame (config_view self.old.connection.settings)
-            (connection_end self.old.connection) (lent frame.entry)))
-            (outcome_of (facts_at (config_view self.old.connection.settings)
-            (connection_end self.old.connection) (lent frame.entry).channel)
-            (end_verdict (config_view self.old.connection.settings) (connection_end self.old.connection)
-            (lent frame.entry)))) }
+        ensures receives { IfSome result (λ step. ReceivesLent self.old.connection self.old.outbox.output heard.old
+            (lent frame.entry) (passed step) self.new.connection self.new.outbox heard.new) }
         ensures octets { IfSome result (λ step. step.octets ≡ frame_length (lent frame.entry)) }
         ensures told { IfSome result (λ step. (given : Option Frame) → came_lent step.came given
-            ≡ lent_of (lent frame.entry).channel (says (lent frame.entry))
-            (maybe_telling (event_of_frame (config_view self.old.connection.settings)
-            (connection_end self.old.connection) (lent frame.entry)))) }
-        ensures end { IfSome result (λ step. EndsAlike (passed step) (connection_end self.old.connection)
-            (end_after_taken (role_for self.old.connection.settings) (config_view self.old.connection.settings)
-            (connection_end self.old.connection) (says (lent frame.entry)) (lent frame.entry))
-            (connection_end self.new.connection)) }
-        ensures output { IfSome result (λ step. PutsAs (passed step) self.old.outbox.output
-            (after_puts (end_puts (config_view self.old.connection.settings) (connection_end self.old.connection)
-            (lent frame.entry)) self.old.outbox.output) self.new.outbox) }
-        ensures heard { IfSome result (λ step. heard_view heard.new ≡ said_after
-            (config_view self.old.connection.settings) (connection_end self.old.connection) (lent frame.entry)
-            (heard_view heard.old)) }
+            ≡ lent_by self.old.connection (lent frame.entry)) }
         ensures tally { IfSome result (λ step. tally_view self.new.tally
             ≡ blames_frame (code_found (passed step)) (lent frame.entry) (tally_view self.old.tally)) }
-        ensures settings { self.new.connection.settings ≡ self.old.connection.settings }
         ensures stage { self.new.connection.stage ≡ self.old.connection.stage }
         ensures splitter { self.new.splitter ≡ self.old.splitter }
         ensures opening { self.new.heard ≡ self.old.heard }
@@ -218,36 +188,13 @@ impl Endpoint {
         requires running { self.old.connection.stage ≡ Stage.Running agreed }
         requires staged { self.old.outbox.staged ≡ [] }
         requires says { reading_view reading ≡ says (lent frame) }
-        ensures said { AnswersFrame
-            (answer_with result (event_of_frame (config_view self.old.connection.settings)
-            (connection_end self.old.connection) (lent frame.entry)))
-            (outcome_of (facts_at (config_view self.old.connection.settings)
-            (connection_end self.old.connection) (lent frame.entry).channel)
-            (end_verdict (config_view self.old.connection.settings) (connection_end self.old.connection)
-            (lent frame.entry))) }
+        ensures receives { ReceivesLent self.old.connection self.old.outbox.output heard.old (lent frame.entry) result
+            self.new.connection self.new.outbox heard.new }
         ensures octets { IfOk result (λ step. step.octets ≡ frame_length (lent frame.entry)) }
         ensures told { IfOk result (λ step. (given : Option Frame) → came_lent step.came given
-            ≡ lent_of (lent frame.entry).channel (says (lent frame.entry))
-            (maybe_telling (event_of_frame (config_view self.old.connection.settings)
-            (connection_end self.old.connection) (lent frame.entry)))) }
-        ensures end { EndsAlike result (connection_end self.old.connection)
-            (end_after_taken (role_for self.old.connection.settings) (config_view self.old.connection.settings)
-            (connection_end self.old.connection) (says (lent frame.entry)) (lent frame.entry))
-            (connection_end self.new.connection) }
-        ensures output { PutsAs result self.old.outbox.output
-            (after_puts (end_puts (config_view self.old.connection.settings) (connection_end self.old.connection)
-            (lent frame.entry)) self.old.outbox.output) self.new.outbox }
-        // A frame that is dropped takes no memory.
-        ensures alone { IsDropped (phase_at self.old.connection.stage) (channels_view self.old.connection.channels
-            (lent frame.entry).channel) (lent frame.entry).channel (lent frame.entry).kind (lent frame.entry).payload
-            → IsOk result }
-        ensures heard { ran_out result ≡ false → heard_view heard.new ≡ said_after
-            (config_view self.old.connection.settings) (connection_end self.old.connection) (lent frame.entry)
-            (heard_view heard.old) }
-        ensures at_fault { ran_out result ≡ false → OnErr result (heard_view heard.new ≡ heard_view heard.old) }
+            ≡ lent_by self.old.connection (lent frame.entry)) }
         ensures tally { tally_view self.new.tally
             ≡ blames_frame (code_found result) (lent frame.entry) (tally_view self.old.tally) }
-        ensures settings { self.new.connection.settings ≡ self.old.connection.settings }
         ensures splitter { self.new.splitter ≡ self.old.splitter }
         ensures opening { self.new.heard ≡ self.old.heard }
     {
@@ -274,36 +221,13 @@ impl Endpoint {
         requires lends { self.old.connection.settings.lends ≡ true }
         requires running { self.old.connection.stage ≡ Stage.Running agreed }
         requires staged { self.old.outbox.staged ≡ [] }
-        ensures said { AnswersFrame
-            (answer_with result (event_of_frame (config_view self.old.connection.settings)
-            (connection_end self.old.connection) (lent frame.entry)))
-            (outcome_of (facts_at (config_view self.old.connection.settings)
-            (connection_end self.old.connection) (lent frame.entry).channel)
-            (end_verdict (config_view self.old.connection.settings) (connection_end self.old.connection)
-            (lent frame.entry))) }
+        ensures receives { ReceivesLent self.old.connection self.old.outbox.output heard.old (lent frame.entry) result
+            self.new.connection self.new.outbox heard.new }
         ensures octets { IfOk result (λ step. step.octets ≡ frame_length (lent frame.entry)) }
         ensures told { IfOk result (λ step. (given : Option Frame) → came_lent step.came given
-            ≡ lent_of (lent frame.entry).channel (says (lent frame.entry))
-            (maybe_telling (event_of_frame (config_view self.old.connection.settings)
-            (connection_end self.old.connection) (lent frame.entry)))) }
-        ensures end { EndsAlike result (connection_end self.old.connection)
-            (end_after_taken (role_for self.old.connection.settings) (config_view self.old.connection.settings)
-            (connection_end self.old.connection) (says (lent frame.entry)) (lent frame.entry))
-            (connection_end self.new.connection) }
-        ensures output { PutsAs result self.old.outbox.output
-            (after_puts (end_puts (config_view self.old.connection.settings) (connection_end self.old.connection)
-            (lent frame.entry)) self.old.outbox.output) self.new.outbox }
-        // A frame that is dropped takes no memory.
-        ensures alone { IsDropped (phase_at self.old.connection.stage) (channels_view self.old.connection.channels
-            (lent frame.entry).channel) (lent frame.entry).channel (lent frame.entry).kind (lent frame.entry).payload
-            → IsOk result }
-        ensures heard { ran_out result ≡ false → heard_view heard.new ≡ said_after
-            (config_view self.old.connection.settings) (connection_end self.old.connection) (lent frame.entry)
-            (heard_view heard.old) }
-        ensures at_fault { ran_out result ≡ false → OnErr result (heard_view heard.new ≡ heard_view heard.old) }
+            ≡ lent_by self.old.connection (lent frame.entry)) }
         ensures tally { tally_view self.new.tally
             ≡ blames_frame (code_found result) (lent frame.entry) (tally_view self.old.tally) }
-        ensures settings { self.new.connection.settings ≡ self.old.connection.settings }
         ensures splitter { self.new.splitter ≡ self.old.splitter }
         ensures opening { self.new.heard ≡ self.old.heard }
     {

@@ -11,13 +11,12 @@ ghost use Rattle.amqp_model.specs.Wire.Contents as contents;
 ghost use Rattle.amqp_model.specs.Wire.Readings as readings;
 ghost use Rattle.amqp_core.specs.Faults.Answering.{answer_with, is_out_of_memory, ran_out, stopped, AnswersFrame, Reports};
 ghost use Rattle.amqp_core.specs.Faults.Blamed.{blames_frame, code_by, code_found, tally_view};
-ghost use Rattle.amqp_core.specs.Connection.Dropping.{IsDropped, DropsReading};
+ghost use Rattle.amqp_core.specs.Connection.Dropping.{DropsReading};
 ghost use Rattle.amqp_core.specs.Stream.EventRefView.{report_lent};
 ghost use Rattle.amqp_core.specs.Stream.StepView.{came_lent, reported};
 ghost use Rattle.amqp_frame.specs.Frame.{Frame, frame_length};
 ghost use Rattle.amqp_channel.specs.declared.verdict.Verdict.TheVariants.{Proceeds};
-ghost use Rattle.amqp_core.specs.Heard.View.{goes_by, heard_view, said_after, said_by};
-ghost use Rattle.amqp_core.specs.Stream.Lending.{AlikeLeft};
+ghost use Rattle.amqp_core.specs.Heard.View.{goes_by, heard_view, said_by};
 ghost use Rattle.amqp_core.specs.Connection.Outcomes.{SameEnd, owed_by};
 ghost use Rattle.amqp_model.specs.Stream.Endpoint.{Found, fault_told, owed_at_fault};
 ghost use Rattle.amqp_core.specs.Connection.Rulings.{OnChannel, OnConnection};
@@ -98,18 +97,14 @@ impl Verdict {
 impl Connection {
     ghost use Rattle.std.specs.Prelude.{cond};
     ghost use Rattle.amqp_channel.specs.Channels.ChannelsView.{NoneUnderWay};
+    ghost use Rattle.amqp_core.specs.Connection.Receiving.{lent_by, ReceivesLent};
     ghost use Rattle.amqp_core.specs.Connection.View.{connection_end};
     ghost use Rattle.amqp_frame.specs.Frame.{lent};
     ghost use Rattle.amqp_model.specs.End.Closes.{frame_of};
-    ghost use Rattle.amqp_model.specs.End.EndVerdict.{end_puts, end_verdict, facts_at};
-    ghost use Rattle.amqp_model.specs.End.Machine.{as_failed, end_after_taken};
-    ghost use Rattle.amqp_model.specs.Laws.OctetLaws.{event_of_frame};
+    ghost use Rattle.amqp_model.specs.End.Machine.{as_failed};
     ghost use Rattle.amqp_model.specs.Output.Outputs.{after_puts};
-    ghost use Rattle.amqp_model.specs.Stream.Endpoint.{outcome_of};
     ghost use Rattle.amqp_model.specs.Wire.Readings.{reading as says};
     ghost use Rattle.amqp_outbox.specs.OutboxView.{only};
-    ghost use Rattle.amqp_core.specs.Faults.Answering.{PutsAs};
-    ghost use Rattle.amqp_core.specs.Stream.Lending.{EndsAlike};
     ghost use Rattle.amqp_core.specs.Config.Settings.{config_view};
     ghost use Rattle.amqp_core.specs.Connection.Verdicts.{end_left};
 
@@ -271,26 +266,10 @@ impl Connection {
         requires running { self.old.stage ≡ Stage.Running agreed }
         requires staged { outbox.now.staged ≡ [] }
         requires says { reading_view reading ≡ says (lent frame) }
-        ensures said { IfSome result (λ told. AnswersFrame
-            (answer_with (reported told) (event_of_frame (config_view self.old.settings)
-            (connection_end self.old) (lent frame.entry)))
-            (outcome_of (facts_at (config_view self.old.settings) (connection_end self.old) (lent frame.entry).channel)
-            (end_verdict (config_view self.old.settings) (connection_end self.old) (lent frame.entry)))) }
+        ensures receives { IfSome result (λ told. ReceivesLent self.old outbox.now.output heard.old (lent frame.entry)
+            (reported told) self.new outbox.now heard.new) }
         ensures told { IfSome result (λ told. report_lent (lent frame.entry).channel (says (lent frame.entry))
-            (Report.OnChannel told)
-            ≡ lent_of (lent frame.entry).channel (says (lent frame.entry))
-            (maybe_telling (event_of_frame (config_view self.old.settings)
-            (connection_end self.old) (lent frame.entry)))) }
-        ensures end { IfSome result (λ told. EndsAlike (reported told) (connection_end self.old)
-            (end_after_taken (role_for self.old.settings) (config_view self.old.settings) (connection_end self.old)
-            (says (lent frame.entry)) (lent frame.entry)) (connection_end self.new)) }
-        ensures output { IfSome result (λ told. PutsAs (reported told) outbox.now.output
-            (after_puts (end_puts (config_view self.old.settings) (connection_end self.old) (lent frame.entry))
-            outbox.now.output)
-            outbox.now) }
-        ensures heard { IfSome result (λ told. heard_view heard.new ≡ said_after (config_view self.old.settings)
-            (connection_end self.old) (lent frame.entry) (heard_view heard.old)) }
-        ensures settings { self.new.settings ≡ self.old.settings }
+            (Report.OnChannel told) ≡ lent_by self.old (lent frame.entry)) }
         ensures stage { self.new.stage ≡ self.old.stage }
         ensures none { result ≡ None → self.new ≡ self.old }
         ensures none_heard { result ≡ None → heard.new ≡ heard.old }
@@ -321,29 +300,10 @@ impl Connection {
         requires taking { takes_frames (phase_at self.old.stage) ≡ true }
         requires staged { outbox.old.staged ≡ [] }
         requires says { reading_view reading ≡ says (lent frame) }
-        ensures said { AnswersFrame
-            (answer_with result (event_of_frame (config_view self.old.settings)
-            (connection_end self.old) (lent frame.entry)))
-            (outcome_of (facts_at (config_view self.old.settings) (connection_end self.old) (lent frame.entry).channel)
-            (end_verdict (config_view self.old.settings) (connection_end self.old) (lent frame.entry))) }
+        ensures receives { ReceivesLent self.old outbox.old.output heard.old (lent frame.entry) result self.new outbox.new
+            heard.new }
         ensures told { IfOk result (λ report. report_lent (lent frame.entry).channel (says (lent frame.entry)) report
-            ≡ lent_of (lent frame.entry).channel (says (lent frame.entry))
-            (maybe_telling (event_of_frame (config_view self.old.settings)
-            (connection_end self.old) (lent frame.entry)))) }
-        ensures end { EndsAlike result (connection_end self.old)
-            (end_after_taken (role_for self.old.settings) (config_view self.old.settings) (connection_end self.old)
-            (says (lent frame.entry)) (lent frame.entry)) (connection_end self.new) }
-        ensures output { PutsAs result outbox.old.output
-            (after_puts (end_puts (config_view self.old.settings) (connection_end self.old) (lent frame.entry))
-            outbox.old.output)
-            outbox.new }
-        // A frame that is dropped takes no memory.
-        ensures alone { IsDropped (phase_at self.old.stage) (channels_view self.old.channels (lent frame.entry).channel)
-            (lent frame.entry).channel (lent frame.entry).kind (lent frame.entry).payload → IsOk result }
-        ensures heard { ran_out result ≡ false → heard_view heard.new ≡ said_after (config_view self.old.settings)
-            (connection_end self.old) (lent frame.entry) (heard_view heard.old) }
-        ensures at_fault { ran_out result ≡ false → OnErr result (heard_view heard.new ≡ heard_view heard.old) }
-        ensures settings { self.new.settings ≡ self.old.settings }
+            ≡ lent_by self.old (lent frame.entry)) }
         ensures tally { tally_view tally.new
             ≡ blames_frame (code_found result) (lent frame.entry) (tally_view tally.old) }
     {
@@ -377,30 +337,11 @@ impl Connection {
         requires taking { takes_frames (phase_at self.old.stage) ≡ true }
         requires staged { outbox.old.staged ≡ [] }
         requires says { reading_view reading ≡ says (lent frame) }
-        ensures said { AnswersFrame
-            (answer_with result (event_of_frame (config_view self.old.settings)
-            (connection_end self.old) (lent frame.entry)))
-            (outcome_of (facts_at (config_view self.old.settings) (connection_end self.old) (lent frame.entry).channel)
-            (end_verdict (config_view self.old.settings) (connection_end self.old) (lent frame.entry))) }
+        ensures receives { ReceivesLent self.old outbox.old.output heard.old (lent frame.entry) result self.new outbox.new
+            heard.new }
         ensures octets { IfOk result (λ step. step.octets ≡ frame_length (lent frame.entry)) }
         ensures told { IfOk result (λ step. (given : Option Frame) → came_lent step.came given
-            ≡ lent_of (lent frame.entry).channel (says (lent frame.entry))
-            (maybe_telling (event_of_frame (config_view self.old.settings)
-            (connection_end self.old) (lent frame.entry)))) }
-        ensures end { EndsAlike result (connection_end self.old)
-            (end_after_taken (role_for self.old.settings) (config_view self.old.settings) (connection_end self.old)
-            (says (lent frame.entry)) (lent frame.entry)) (connection_end self.new) }
-        ensures output { PutsAs result outbox.old.output
-            (after_puts (end_puts (config_view self.old.settings) (connection_end self.old) (lent frame.entry))
-            outbox.old.output)
-            outbox.new }
-        // A frame that is dropped takes no memory.
-        ensures alone { IsDropped (phase_at self.old.stage) (channels_view self.old.channels (lent frame.entry).channel)
-            (lent frame.entry).channel (lent frame.entry).kind (lent frame.entry).payload → IsOk result }
-        ensures heard { ran_out result ≡ false → heard_view heard.new ≡ said_after (config_view self.old.settings)
-            (connection_end self.old) (lent frame.entry) (heard_view heard.old) }
-        ensures at_fault { ran_out result ≡ false → OnErr result (heard_view heard.new ≡ heard_view heard.old) }
-        ensures settings { self.new.settings ≡ self.old.settings }
+            ≡ lent_by self.old (lent frame.entry)) }
         ensures tally { tally_view tally.new
             ≡ blames_frame (code_found result) (lent frame.entry) (tally_view tally.old) }
     {
@@ -427,29 +368,10 @@ impl Connection {
         requires zero { phase_at self.old.stage ≡ Running → (lent frame).channel ≡ 0 }
         requires staged { outbox.old.staged ≡ [] }
         requires says { reading_view reading ≡ says (lent frame) }
-        ensures said { AnswersFrame
-            (answer_with result (event_of_frame (config_view self.old.settings)
-            (connection_end self.old) (lent frame.entry)))
-            (outcome_of (facts_at (config_view self.old.settings) (connection_end self.old) (lent frame.entry).channel)
-            (end_verdict (config_view self.old.settings) (connection_end self.old) (lent frame.entry))) }
+        ensures receives { ReceivesLent self.old outbox.old.output heard.old (lent frame.entry) result self.new outbox.new
+            heard.new }
         ensures told { IfOk result (λ report. report_lent (lent frame.entry).channel (says (lent frame.entry)) report
-            ≡ lent_of (lent frame.entry).channel (says (lent frame.entry))
-            (maybe_telling (event_of_frame (config_view self.old.settings)
-            (connection_end self.old) (lent frame.entry)))) }
-        ensures end { EndsAlike result (connection_end self.old)
-            (end_after_taken (role_for self.old.settings) (config_view self.old.settings) (connection_end self.old)
-            (says (lent frame.entry)) (lent frame.entry)) (connection_end self.new) }
-        ensures output { PutsAs result outbox.old.output
-            (after_puts (end_puts (config_view self.old.settings) (connection_end self.old) (lent frame.entry))
-            outbox.old.output)
-            outbox.new }
-        // A frame that is dropped takes no memory.
-        ensures alone { IsDropped (phase_at self.old.stage) (channels_view self.old.channels (lent frame.entry).channel)
-            (lent frame.entry).channel (lent frame.entry).kind (lent frame.entry).payload → IsOk result }
-        ensures heard { ran_out result ≡ false → heard_view heard.new ≡ said_after (config_view self.old.settings)
-            (connection_end self.old) (lent frame.entry) (heard_view heard.old) }
-        ensures at_fault { ran_out result ≡ false → OnErr result (heard_view heard.new ≡ heard_view heard.old) }
-        ensures settings { self.new.settings ≡ self.old.settings }
+            ≡ lent_by self.old (lent frame.entry)) }
         ensures tally { tally_view tally.new
             ≡ blames_frame (code_found result) (lent frame.entry) (tally_view tally.old) }
     {

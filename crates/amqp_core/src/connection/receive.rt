@@ -14,8 +14,8 @@ ghost use Rattle.amqp_channel.specs.Verdict.VerdictView.{verdict_view as channel
 ghost use Rattle.amqp_model.specs.End.Events as events;
 ghost use Rattle.amqp_core.specs.Faults.Answering.{answer_with, ran_out, AnswersFrame};
 ghost use Rattle.amqp_core.specs.Faults.Blamed.{code_by, code_found};
-ghost use Rattle.amqp_core.specs.Connection.Dropping.{DropsReading, IsDropped};
-ghost use Rattle.amqp_core.specs.Heard.View.{goes_by, heard_view, said_after, said_by};
+ghost use Rattle.amqp_core.specs.Connection.Dropping.{DropsReading};
+ghost use Rattle.amqp_core.specs.Heard.View.{goes_by, heard_view, said_by};
 ghost use Rattle.amqp_core.specs.Connection.Rulings.{OnChannel, OnConnection};
 ghost use Rattle.amqp_core.specs.Config.Settings.{role_for};
 ghost use Rattle.amqp_core.specs.Connection.Stages.{leaves, phase_at};
@@ -211,23 +211,17 @@ fn report(fault: Option<Fault>) -> Result<(), CoreFault>
 }
 
 impl Connection {
+    ghost use Rattle.amqp_core.specs.Connection.Receiving.{Receives};
     ghost use Rattle.amqp_core.specs.Connection.View.{connection_end};
     ghost use Rattle.amqp_frame.specs.Frame.{lent};
     ghost use Rattle.amqp_model.specs.End.Channels.{Running};
     ghost use Rattle.amqp_model.specs.End.Closes.{frame_of};
-    ghost use Rattle.amqp_model.specs.End.EndVerdict.{end_puts, end_verdict, facts_at};
-    ghost use Rattle.amqp_model.specs.Stream.Endpoint.{outcome_of};
-    ghost use Rattle.amqp_model.specs.End.FrameVerdict.{methods_put};
     ghost use Rattle.amqp_model.specs.Stream.Traces.{IsTaken, noted};
     ghost use Rattle.amqp_core.specs.Traced.AccountView.{note_there};
-    ghost use Rattle.amqp_core.specs.End.Feeding.{IsMessage, SameButChannels};
-    ghost use Rattle.amqp_model.specs.End.Machine.{end_after_taken};
     ghost use Rattle.amqp_model.specs.Output.Outputs.{after_puts};
     ghost use Rattle.amqp_model.specs.Wire.Readings.{reading as says};
     ghost use Rattle.amqp_outbox.specs.OutboxView.{only};
-    ghost use Rattle.amqp_core.specs.Faults.Answering.{EndsAs, PutsAs};
     ghost use Rattle.amqp_core.specs.Faults.Blamed.{blames_frame, tally_view};
-    ghost use Rattle.amqp_core.specs.Config.Settings.{config_view};
     ghost use Rattle.amqp_core.specs.Connection.Verdicts.{content_of, end_left, ended_if, verdict_here, FitsVerdict, FrameRules, StepsFrom};
     ghost use Rattle.amqp_channel.specs.Channels.Used.{is_closing_at};
     ghost use Rattle.amqp_channel.specs.Verdict.VerdictView.{IsPart};
@@ -472,38 +466,9 @@ impl Connection {
         requires staged { outbox.now.staged ≡ [] }
         requires none { account.old.parts ≡ None }
         requires says { reading_view reading ≡ says (lent frame) }
-        ensures said { IfSome result (λ answer. AnswersFrame (answer_with answer (parts_there account.new.parts))
-            (outcome_of (facts_at (config_view self.old.settings) (connection_end self.old) (lent frame.entry).channel)
-            (end_verdict (config_view self.old.settings) (connection_end self.old) (lent frame.entry)))) }
-        ensures end { IfSome result (λ answer. EndsAs answer (connection_end self.old)
-            (end_after_taken (role_for self.old.settings) (config_view self.old.settings) (connection_end self.old)
-            (says (lent frame.entry)) (lent frame.entry)) (connection_end self.new)) }
-        ensures output { IfSome result (λ answer. PutsAs answer outbox.now.output
-            (after_puts (end_puts (config_view self.old.settings) (connection_end self.old) (lent frame.entry))
-            outbox.now.output) outbox.now) }
-        // A frame that is dropped takes no memory.
-        ensures alone { IfSome result (λ answer. IsDropped (phase_at self.old.stage)
-            (channels_view self.old.channels (lent frame.entry).channel) (lent frame.entry).channel
-            (lent frame.entry).kind (lent frame.entry).payload → IsOk answer) }
-        // A message that is told is not answered, and leaves all but its channel as it was.
-        ensures message { IfSome result (λ answer. OnOk answer (IsMessage (parts_there account.new.parts)
-            → SameButChannels
-            (record { end = connection_end self.old; unfinished = []; output = outbox.now.output })
-            (record { end = connection_end self.new; unfinished = []; output = outbox.now.output }))) }
-        ensures octets { account.new.octets ≡ account.old.octets }
-        ensures took { IfSome result (λ answer. note_there account.new.took
-            ≡ Some (noted IsTaken (lent frame.entry))) }
-        ensures owed { IfSome result (λ answer. ran_out answer ≡ false
-            → owed_view self.old.settings account.new.owed ≡ methods_put
-            (facts_at (config_view self.old.settings) (connection_end self.old) (lent frame.entry).channel)
-            (end_verdict (config_view self.old.settings) (connection_end self.old) (lent frame.entry))) }
-        ensures heard { IfSome result (λ answer. ran_out answer ≡ false → heard_view heard.new
-            ≡ said_after (config_view self.old.settings) (connection_end self.old) (lent frame.entry)
-            (heard_view heard.old)) }
-        ensures at_fault { IfSome result (λ answer. ran_out answer ≡ false
-            → OnErr answer (heard_view heard.new ≡ heard_view heard.old)) }
+        ensures receives { IfSome result (λ answer. Receives self.old outbox.now.output account.old heard.old
+            (lent frame.entry) answer self.new outbox.now account.new heard.new) }
         ensures faultless { IfSome result (λ answer. code_found answer ≡ None) }
-        ensures settings { self.new.settings ≡ self.old.settings }
         ensures none { result ≡ None → self.new ≡ self.old }
         ensures none_told { result ≡ None → account.new ≡ account.old }
         ensures none_heard { result ≡ None → heard.new ≡ heard.old }
@@ -538,31 +503,8 @@ impl Connection {
         requires staged { outbox.old.staged ≡ [] }
         requires none { account.old.parts ≡ None }
         requires says { reading_view reading ≡ says (lent frame) }
-        ensures said { AnswersFrame (answer_with result (parts_there account.new.parts)) (outcome_of
-            (facts_at (config_view self.old.settings) (connection_end self.old) (lent frame.entry).channel)
-            (end_verdict (config_view self.old.settings) (connection_end self.old) (lent frame.entry))) }
-        ensures end { EndsAs result (connection_end self.old)
-            (end_after_taken (role_for self.old.settings) (config_view self.old.settings) (connection_end self.old)
-            (says (lent frame.entry)) (lent frame.entry)) (connection_end self.new) }
-        ensures output { PutsAs result outbox.old.output
-            (after_puts (end_puts (config_view self.old.settings) (connection_end self.old) (lent frame.entry))
-            outbox.old.output) outbox.new }
-        // A frame that is dropped takes no memory.
-        ensures alone { IsDropped (phase_at self.old.stage) (channels_view self.old.channels (lent frame.entry).channel)
-            (lent frame.entry).channel (lent frame.entry).kind (lent frame.entry).payload → IsOk result }
-        // A message that is told is not answered, and leaves all but its channel as it was.
-        ensures message { OnOk result (IsMessage (parts_there account.new.parts) → SameButChannels
-            (record { end = connection_end self.old; unfinished = []; output = outbox.old.output })
-            (record { end = connection_end self.new; unfinished = []; output = outbox.new.output })) }
-        ensures octets { account.new.octets ≡ account.old.octets }
-        ensures took { note_there account.new.took ≡ Some (noted IsTaken (lent frame.entry)) }
-        ensures owed { ran_out result ≡ false → owed_view self.old.settings account.new.owed ≡ methods_put
-            (facts_at (config_view self.old.settings) (connection_end self.old) (lent frame.entry).channel)
-            (end_verdict (config_view self.old.settings) (connection_end self.old) (lent frame.entry)) }
-        ensures heard { ran_out result ≡ false → heard_view heard.new ≡ said_after (config_view self.old.settings)
-            (connection_end self.old) (lent frame.entry) (heard_view heard.old) }
-        ensures at_fault { ran_out result ≡ false → OnErr result (heard_view heard.new ≡ heard_view heard.old) }
-        ensures settings { self.new.settings ≡ self.old.settings }
+        ensures receives { Receives self.old outbox.old.output account.old heard.old (lent frame.entry) result self.new
+            outbox.new account.new heard.new }
         ensures tally { tally_view tally.new
             ≡ blames_frame (code_found result) (lent frame.entry) (tally_view tally.old) }
     {
@@ -589,31 +531,8 @@ impl Connection {
         requires staged { outbox.old.staged ≡ [] }
         requires none { account.old.parts ≡ None }
         requires says { reading_view reading ≡ says (lent frame) }
-        ensures said { AnswersFrame (answer_with result (parts_there account.new.parts)) (outcome_of
-            (facts_at (config_view self.old.settings) (connection_end self.old) (lent frame.entry).channel)
-            (end_verdict (config_view self.old.settings) (connection_end self.old) (lent frame.entry))) }
-        ensures end { EndsAs result (connection_end self.old)
-            (end_after_taken (role_for self.old.settings) (config_view self.old.settings) (connection_end self.old)
-            (says (lent frame.entry)) (lent frame.entry)) (connection_end self.new) }
-        ensures output { PutsAs result outbox.old.output
-            (after_puts (end_puts (config_view self.old.settings) (connection_end self.old) (lent frame.entry))
-            outbox.old.output) outbox.new }
-        // A frame that is dropped takes no memory.
-        ensures alone { IsDropped (phase_at self.old.stage) (channels_view self.old.channels (lent frame.entry).channel)
-            (lent frame.entry).channel (lent frame.entry).kind (lent frame.entry).payload → IsOk result }
-        // A message that is told is not answered, and leaves all but its channel as it was.
-        ensures message { OnOk result (IsMessage (parts_there account.new.parts) → SameButChannels
-            (record { end = connection_end self.old; unfinished = []; output = outbox.old.output })
-            (record { end = connection_end self.new; unfinished = []; output = outbox.new.output })) }
-        ensures octets { account.new.octets ≡ account.old.octets }
-        ensures took { note_there account.new.took ≡ Some (noted IsTaken (lent frame.entry)) }
-        ensures owed { ran_out result ≡ false → owed_view self.old.settings account.new.owed ≡ methods_put
-            (facts_at (config_view self.old.settings) (connection_end self.old) (lent frame.entry).channel)
-            (end_verdict (config_view self.old.settings) (connection_end self.old) (lent frame.entry)) }
-        ensures heard { ran_out result ≡ false → heard_view heard.new ≡ said_after (config_view self.old.settings)
-            (connection_end self.old) (lent frame.entry) (heard_view heard.old) }
-        ensures at_fault { ran_out result ≡ false → OnErr result (heard_view heard.new ≡ heard_view heard.old) }
-        ensures settings { self.new.settings ≡ self.old.settings }
+        ensures receives { Receives self.old outbox.old.output account.old heard.old (lent frame.entry) result self.new
+            outbox.new account.new heard.new }
         ensures tally { tally_view tally.new
             ≡ blames_frame (code_found result) (lent frame.entry) (tally_view tally.old) }
     {
@@ -649,31 +568,8 @@ impl Connection {
         requires taking { takes_frames (phase_at self.old.stage) ≡ true }
         requires staged { outbox.old.staged ≡ [] }
         requires none { account.old.parts ≡ None }
-        ensures said { AnswersFrame (answer_with result (parts_there account.new.parts)) (outcome_of
-            (facts_at (config_view self.old.settings) (connection_end self.old) (lent frame.entry).channel)
-            (end_verdict (config_view self.old.settings) (connection_end self.old) (lent frame.entry))) }
-        ensures end { EndsAs result (connection_end self.old)
-            (end_after_taken (role_for self.old.settings) (config_view self.old.settings) (connection_end self.old)
-            (says (lent frame.entry)) (lent frame.entry)) (connection_end self.new) }
-        ensures output { PutsAs result outbox.old.output
-            (after_puts (end_puts (config_view self.old.settings) (connection_end self.old) (lent frame.entry))
-            outbox.old.output) outbox.new }
-        // A frame that is dropped takes no memory.
-        ensures alone { IsDropped (phase_at self.old.stage) (channels_view self.old.channels (lent frame.entry).channel)
-            (lent frame.entry).channel (lent frame.entry).kind (lent frame.entry).payload → IsOk result }
-        // A message that is told is not answered, and leaves all but its channel as it was.
-        ensures message { OnOk result (IsMessage (parts_there account.new.parts) → SameButChannels
-            (record { end = connection_end self.old; unfinished = []; output = outbox.old.output })
-            (record { end = connection_end self.new; unfinished = []; output = outbox.new.output })) }
-        ensures octets { account.new.octets ≡ account.old.octets }
-        ensures took { note_there account.new.took ≡ Some (noted IsTaken (lent frame.entry)) }
-        ensures owed { ran_out result ≡ false → owed_view self.old.settings account.new.owed ≡ methods_put
-            (facts_at (config_view self.old.settings) (connection_end self.old) (lent frame.entry).channel)
-            (end_verdict (config_view self.old.settings) (connection_end self.old) (lent frame.entry)) }
-        ensures heard { ran_out result ≡ false → heard_view heard.new ≡ said_after (config_view self.old.settings)
-            (connection_end self.old) (lent frame.entry) (heard_view heard.old) }
-        ensures at_fault { ran_out result ≡ false → OnErr result (heard_view heard.new ≡ heard_view heard.old) }
-        ensures settings { self.new.settings ≡ self.old.settings }
+        ensures receives { Receives self.old outbox.old.output account.old heard.old (lent frame.entry) result self.new
+            outbox.new account.new heard.new }
         ensures tally { tally_view tally.new
             ≡ blames_frame (code_found result) (lent frame.entry) (tally_view tally.old) }
     {
@@ -718,31 +614,8 @@ impl Connection {
         requires none { account.old.parts ≡ None }
         requires took { note_there account.old.took ≡ Some (noted IsTaken (lent frame)) }
         requires says { reading_view reading ≡ says (lent frame) }
-        ensures said { AnswersFrame (answer_with result (parts_there account.new.parts)) (outcome_of
-            (facts_at (config_view self.old.settings) (connection_end self.old) (lent frame.entry).channel)
-            (end_verdict (config_view self.old.settings) (connection_end self.old) (lent frame.entry))) }
-        ensures end { EndsAs result (connection_end self.old)
-            (end_after_taken (role_for self.old.settings) (config_view self.old.settings) (connection_end self.old)
-            (says (lent frame.entry)) (lent frame.entry)) (connection_end self.new) }
-        ensures output { PutsAs result outbox.old.output
-            (after_puts (end_puts (config_view self.old.settings) (connection_end self.old) (lent frame.entry))
-            outbox.old.output) outbox.new }
-        // A frame that is dropped takes no memory.
-        ensures alone { IsDropped (phase_at self.old.stage) (channels_view self.old.channels (lent frame.entry).channel)
-            (lent frame.entry).channel (lent frame.entry).kind (lent frame.entry).payload → IsOk result }
-        // A message that is told is not answered, and leaves all but its channel as it was.
-        ensures message { OnOk result (IsMessage (parts_there account.new.parts) → SameButChannels
-            (record { end = connection_end self.old; unfinished = []; output = outbox.old.output })
-            (record { end = connection_end self.new; unfinished = []; output = outbox.new.output })) }
-        ensures octets { account.new.octets ≡ account.old.octets }
-        ensures took { note_there account.new.took ≡ Some (noted IsTaken (lent frame.entry)) }
-        ensures owed { ran_out result ≡ false → owed_view self.old.settings account.new.owed ≡ methods_put
-            (facts_at (config_view self.old.settings) (connection_end self.old) (lent frame.entry).channel)
-            (end_verdict (config_view self.old.settings) (connection_end self.old) (lent frame.entry)) }
-        ensures heard { ran_out result ≡ false → heard_view heard.new ≡ said_after (config_view self.old.settings)
-            (connection_end self.old) (lent frame.entry) (heard_view heard.old) }
-        ensures at_fault { ran_out result ≡ false → OnErr result (heard_view heard.new ≡ heard_view heard.old) }
-        ensures settings { self.new.settings ≡ self.old.settings }
+        ensures receives { Receives self.old outbox.old.output account.old heard.old (lent frame.entry) result self.new
+            outbox.new account.new heard.new }
         ensures tally { tally_view tally.new
             ≡ blames_frame (code_found result) (lent frame.entry) (tally_view tally.old) }
     {

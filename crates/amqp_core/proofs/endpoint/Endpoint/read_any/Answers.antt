@@ -133,7 +133,7 @@ returns-in-Piece-clause-lent c =
     subst (λ (a : Result LentSeen CoreFault). IsLent role config a (endpoint_view old) piece fed new) (sym (c.step_of.ensures.seen c.tune.new.splitter.given))
     (lent_by role config said octets frame.channel (Some (reading_view c.of-reading.result)) (endpoint_view old) piece fed new
     (λ seen lends. frame_lent role config (endpoint_view old) old.splitter piece octets frame said seen (connection_end c.receive_lent-answer.new.self) (unfinished_of old.heard c.tune.new.splitter.pending) c.receive_lent-answer.new.outbox
-    law by c.in-Ok.ensures.within completes c.receive_lent-answer.ensures.said c.receive_lent-answer.ensures.end (none_unfinished old.heard c.tune.new.splitter.pending none pending) c.receive_lent-answer.ensures.output lends)
+    law by c.in-Ok.ensures.within completes c.receive_lent-answer.ensures.receives.said c.receive_lent-answer.ensures.receives.end (none_unfinished old.heard c.tune.new.splitter.pending none pending) c.receive_lent-answer.ensures.receives.output lends)
     (if_told said _ (λ report. LendsOf role config (endpoint_view old) piece fed (told_of frame.channel (Some (reading_view c.of-reading.result)) report))
     (λ report told. lends_of_frame role config (endpoint_view old) piece fed octets frame (told_of frame.channel (Some (reading_view c.of-reading.result)) report) c.judged_is_said.ensures.one c.requires.reads (law by c.in-Ok.ensures.within completes)
     (whole_of old.splitter (endpoint_view old) (take octets piece) frame by.splits completes)
@@ -157,11 +157,11 @@ returns-in-Piece-clause-sound c =
     let pending : c.tune.new.splitter.pending ≡ [] = ap (λ (s : Stream). s.pending) c.tune.ensures ∙ ap (λ (s : Stream). s.pending) after in
     let law = c.pieces_are_split.ensures.frame role config (endpoint_view old) old.splitter piece octets frame in
     frame_sound old (record { connection = c.receive_lent-answer.new.self; splitter = c.tune.new.splitter; heard = old.heard; outbox = c.receive_lent-answer.new.outbox; tally = c.receive_lent-answer.new.tally }) piece octets frame said c.advance.new.self
-    c.requires.sound c.requires.reads c.receive_lent-answer.ensures.settings refl
+    c.requires.sound c.requires.reads c.receive_lent-answer.ensures.receives.settings refl
     (c.agreed_is_within.ensures.frame role config (connection_end old.connection) frame) (c.unfinished_is_held.ensures.feed role config (endpoint_view old) piece) (c.ends_are_bounded.ensures.frame role config (connection_end old.connection) frame)
-    by (ap (λ (s : Stream). s.pending) after) (ap (λ (s : Stream). s.fault) after) c.tune.ensures c.receive_lent-answer.ensures.end c.receive_lent-answer.ensures.output
+    by (ap (λ (s : Stream). s.pending) after) (ap (λ (s : Stream). s.fault) after) c.tune.ensures c.receive_lent-answer.ensures.receives.end c.receive_lent-answer.ensures.receives.output
     (frame_stands role config (endpoint_view old) old.splitter piece octets frame said (connection_end c.receive_lent-answer.new.self) (unfinished_of old.heard c.tune.new.splitter.pending) c.receive_lent-answer.new.outbox
-    law by c.in-Ok.ensures.within completes c.receive_lent-answer.ensures.said c.receive_lent-answer.ensures.end (none_unfinished old.heard c.tune.new.splitter.pending none pending) c.receive_lent-answer.ensures.output)
+    law by c.in-Ok.ensures.within completes c.receive_lent-answer.ensures.receives.said c.receive_lent-answer.ensures.receives.end (none_unfinished old.heard c.tune.new.splitter.pending none pending) c.receive_lent-answer.ensures.receives.output)
 
 pub returns-in-Piece-clause-in_place : goal.returns-in-Piece-clause-in_place
 returns-in-Piece-clause-in_place c = λ drops.
@@ -179,7 +179,7 @@ returns-in-Piece-clause-in_place c = λ drops.
     let completes : Completes old.splitter (take octets piece) frame = piece_place c.in-Some.place c.advance.new.self.given c.in-Piece.frame (Completes old.splitter (take octets piece)) c.in-Piece.is (subst (λ o. IfSome o (λ p. OfGiven p c.advance.new.self.given (Completes old.splitter (take octets piece)))) c.in-Some.is c.in-Ok.ensures.frame) in
     let starts = none_pending role (connection_end old.connection) old.heard old.splitter old.outbox.output piece c.requires.sound.fields drops in
     c.step_of.ensures.ok
-    (c.receive_lent-answer.ensures.alone (given_dropped role (endpoint_view old) old.splitter piece octets frame c.one_frame_at_start.ensures drops starts completes))
+    (c.receive_lent-answer.ensures.receives.alone (given_dropped role (endpoint_view old) old.splitter piece octets frame c.one_frame_at_start.ensures drops starts completes))
 
 pub receive_lent-answer-requires-clause-taking : goal.receive_lent-answer-requires-clause-taking
 receive_lent-answer-requires-clause-taking c = takes (role_at c.args.self.now) (connection_end c.args.self.now.connection) c.args.self.now.heard c.args.self.now.splitter c.requires.sound.fields c.requires.reads
@@ -210,7 +210,7 @@ tune-requires-clause-fits c =
     let next = left_by_frame role config said (connection_end old.connection) frame in
     let left = connection_end c.receive_lent-answer.new.self in
     (frame_leaves role config (connection_end old.connection) (standing_in next left) frame (ran_out said) c.requires.sound.writes
-    (c.agreed_is_within.ensures.frame role config (connection_end old.connection) frame) (c.requires.sound.fields.awaited r.opened) c.requires.sound.fields.agreed (stands_in next left c.receive_lent-answer.ensures.end)).0
+    (c.agreed_is_within.ensures.frame role config (connection_end old.connection) frame) (c.requires.sound.fields.awaited r.opened) c.requires.sound.fields.agreed (stands_in next left c.receive_lent-answer.ensures.receives.end)).0
 
 pub tune-requires-clause-pending : goal.tune-requires-clause-pending
 tune-requires-clause-pending c =
@@ -242,7 +242,7 @@ returns-in-Buffer-clause-lent c =
     subst (λ (a : Result LentSeen CoreFault). IsLent role config a (endpoint_view old) piece fed new) (sym (c.step_buffered.ensures.seen c.tune-in-Buffer.new.splitter.given))
     (lent_by role config said octets frame.channel (read_in c.tune-in-Buffer.new.splitter.given) (endpoint_view old) piece fed new
     (λ seen lends. frame_lent role config (endpoint_view old) old.splitter piece octets frame said seen (connection_end c.receive_lent-answer-in-Buffer.new.self) (unfinished_of old.heard c.tune-in-Buffer.new.splitter.pending) c.receive_lent-answer-in-Buffer.new.outbox
-    law by c.in-Ok.ensures.within completes c.receive_lent-answer-in-Buffer.ensures.said c.receive_lent-answer-in-Buffer.ensures.end (none_unfinished old.heard c.tune-in-Buffer.new.splitter.pending none pending) c.receive_lent-answer-in-Buffer.ensures.output lends)
+    law by c.in-Ok.ensures.within completes c.receive_lent-answer-in-Buffer.ensures.receives.said c.receive_lent-answer-in-Buffer.ensures.receives.end (none_unfinished old.heard c.tune-in-Buffer.new.splitter.pending none pending) c.receive_lent-answer-in-Buffer.ensures.receives.output lends)
     (if_told said _ (λ report. LendsOf role config (endpoint_view old) piece fed (told_of frame.channel (read_in c.tune-in-Buffer.new.splitter.given) report))
     (λ report told. lends_of_frame role config (endpoint_view old) piece fed octets frame (told_of frame.channel (read_in c.tune-in-Buffer.new.splitter.given) report) c.judged_is_said.ensures.one c.requires.reads (law by c.in-Ok.ensures.within completes)
     (whole_of old.splitter (endpoint_view old) (take octets piece) frame by.splits completes)
@@ -266,11 +266,11 @@ returns-in-Buffer-clause-sound c =
     let pending : c.tune-in-Buffer.new.splitter.pending ≡ [] = ap (λ (s : Stream). s.pending) c.tune-in-Buffer.ensures ∙ ap (λ (s : Stream). s.pending) after in
     let law = c.pieces_are_split.ensures.frame role config (endpoint_view old) old.splitter piece octets frame in
     frame_sound old (record { connection = c.receive_lent-answer-in-Buffer.new.self; splitter = c.tune-in-Buffer.new.splitter; heard = old.heard; outbox = c.receive_lent-answer-in-Buffer.new.outbox; tally = c.receive_lent-answer-in-Buffer.new.tally }) piece octets frame said c.advance.new.self
-    c.requires.sound c.requires.reads c.receive_lent-answer-in-Buffer.ensures.settings refl
+    c.requires.sound c.requires.reads c.receive_lent-answer-in-Buffer.ensures.receives.settings refl
     (c.agreed_is_within.ensures.frame role config (connection_end old.connection) frame) (c.unfinished_is_held.ensures.feed role config (endpoint_view old) piece) (c.ends_are_bounded.ensures.frame role config (connection_end old.connection) frame)
-    by (ap (λ (s : Stream). s.pending) after) (ap (λ (s : Stream). s.fault) after) c.tune-in-Buffer.ensures c.receive_lent-answer-in-Buffer.ensures.end c.receive_lent-answer-in-Buffer.ensures.output
+    by (ap (λ (s : Stream). s.pending) after) (ap (λ (s : Stream). s.fault) after) c.tune-in-Buffer.ensures c.receive_lent-answer-in-Buffer.ensures.receives.end c.receive_lent-answer-in-Buffer.ensures.receives.output
     (frame_stands role config (endpoint_view old) old.splitter piece octets frame said (connection_end c.receive_lent-answer-in-Buffer.new.self) (unfinished_of old.heard c.tune-in-Buffer.new.splitter.pending) c.receive_lent-answer-in-Buffer.new.outbox
-    law by c.in-Ok.ensures.within completes c.receive_lent-answer-in-Buffer.ensures.said c.receive_lent-answer-in-Buffer.ensures.end (none_unfinished old.heard c.tune-in-Buffer.new.splitter.pending none pending) c.receive_lent-answer-in-Buffer.ensures.output)
+    law by c.in-Ok.ensures.within completes c.receive_lent-answer-in-Buffer.ensures.receives.said c.receive_lent-answer-in-Buffer.ensures.receives.end (none_unfinished old.heard c.tune-in-Buffer.new.splitter.pending none pending) c.receive_lent-answer-in-Buffer.ensures.receives.output)
 
 pub returns-in-Buffer-clause-in_place : goal.returns-in-Buffer-clause-in_place
 returns-in-Buffer-clause-in_place c = λ drops.
@@ -288,7 +288,7 @@ returns-in-Buffer-clause-in_place c = λ drops.
     let completes : Completes old.splitter (take octets piece) frame = given_place c.in-Some.place c.advance.new.self.given (lent c.buffered_frame-frame.result) (Completes old.splitter (take octets piece)) c.in-Buffer.is c.buffered_frame-frame.ensures (subst (λ o. IfSome o (λ p. OfGiven p c.advance.new.self.given (Completes old.splitter (take octets piece)))) c.in-Some.is c.in-Ok.ensures.frame) in
     let starts = none_pending role (connection_end old.connection) old.heard old.splitter old.outbox.output piece c.requires.sound.fields drops in
     c.step_buffered.ensures.ok
-    (c.receive_lent-answer-in-Buffer.ensures.alone (given_dropped role (endpoint_view old) old.splitter piece octets frame c.one_frame_at_start.ensures drops starts completes))
+    (c.receive_lent-answer-in-Buffer.ensures.receives.alone (given_dropped role (endpoint_view old) old.splitter piece octets frame c.one_frame_at_start.ensures drops starts completes))
 
 pub receive_lent-answer-requires-in-Buffer-clause-taking : goal.receive_lent-answer-requires-in-Buffer-clause-taking
 receive_lent-answer-requires-in-Buffer-clause-taking c = takes (role_at c.args.self.now) (connection_end c.args.self.now.connection) c.args.self.now.heard c.args.self.now.splitter c.requires.sound.fields c.requires.reads
@@ -319,7 +319,7 @@ tune-requires-in-Buffer-clause-fits c =
     let next = left_by_frame role config said (connection_end old.connection) frame in
     let left = connection_end c.receive_lent-answer-in-Buffer.new.self in
     (frame_leaves role config (connection_end old.connection) (standing_in next left) frame (ran_out said) c.requires.sound.writes
-    (c.agreed_is_within.ensures.frame role config (connection_end old.connection) frame) (c.requires.sound.fields.awaited r.opened) c.requires.sound.fields.agreed (stands_in next left c.receive_lent-answer-in-Buffer.ensures.end)).0
+    (c.agreed_is_within.ensures.frame role config (connection_end old.connection) frame) (c.requires.sound.fields.awaited r.opened) c.requires.sound.fields.agreed (stands_in next left c.receive_lent-answer-in-Buffer.ensures.receives.end)).0
 
 pub tune-requires-in-Buffer-clause-pending : goal.tune-requires-in-Buffer-clause-pending
 tune-requires-in-Buffer-clause-pending c =
@@ -438,7 +438,7 @@ returns-in-Piece-clause-heard c =
     (frame_heard role config c.receive_lent-answer.result (endpoint_view old) piece _ octets frame _ _ c.judged_is_said.ensures.one c.requires.reads
     (c.pieces_are_split.ensures.frame role config (endpoint_view old) old.splitter piece octets frame by c.in-Ok.ensures.within completes)
     (whole_of old.splitter (endpoint_view old) (take octets piece) frame by.splits completes)
-    c.receive_lent-answer.ensures.heard c.receive_lent-answer.ensures.at_fault)
+    c.receive_lent-answer.ensures.receives.heard c.receive_lent-answer.ensures.receives.at_fault)
 
 pub returns-in-Buffer-clause-heard : goal.returns-in-Buffer-clause-heard
 returns-in-Buffer-clause-heard c =
@@ -454,4 +454,4 @@ returns-in-Buffer-clause-heard c =
     (frame_heard role config c.receive_lent-answer-in-Buffer.result (endpoint_view old) piece _ octets frame _ _ c.judged_is_said.ensures.one c.requires.reads
     (c.pieces_are_split.ensures.frame role config (endpoint_view old) old.splitter piece octets frame by c.in-Ok.ensures.within completes)
     (whole_of old.splitter (endpoint_view old) (take octets piece) frame by.splits completes)
-    c.receive_lent-answer-in-Buffer.ensures.heard c.receive_lent-answer-in-Buffer.ensures.at_fault)
+    c.receive_lent-answer-in-Buffer.ensures.receives.heard c.receive_lent-answer-in-Buffer.ensures.receives.at_fault)

@@ -84,7 +84,7 @@ returns-clause-lent c =
     subst (λ (a : Result LentSeen CoreFault). IsLent role config a (endpoint_view old) piece fed new)
     (sym (step_is said octets event c.tune.new.splitter.given c.take_frame-answer.ensures.octets c.take_frame-answer.ensures.told))
     (frame_lent role config (endpoint_view old) old.splitter piece octets frame said event (connection_end left.connection) (unfinished_of left.heard c.tune.new.splitter.pending) left.outbox
-    law by whole.within completes c.take_frame-answer.ensures.said c.take_frame-answer.ensures.end empty c.take_frame-answer.ensures.output
+    law by whole.within completes c.take_frame-answer.ensures.receives.said c.take_frame-answer.ensures.receives.end empty c.take_frame-answer.ensures.receives.output
     (if_all said (LendsOf role config (endpoint_view old) piece fed event)
     (lends_of_frame role config (endpoint_view old) piece fed octets frame event c.judged_is_said.ensures.one running (law by whole.within completes)
     (whole_of old.splitter (endpoint_view old) (take octets piece) frame by.splits completes) refl)))
@@ -111,11 +111,11 @@ returns-clause-sound c =
     let pending : c.tune.new.splitter.pending ≡ [] = ap (λ (s : Stream). s.pending) c.tune.ensures ∙ ap (λ (s : Stream). s.pending) after in
     let empty = none_unfinished left.heard c.tune.new.splitter.pending still pending in
     frame_sound old (record { connection = left.connection; splitter = c.tune.new.splitter; heard = left.heard; outbox = left.outbox; tally = left.tally }) piece octets frame said left.splitter
-    c.requires.sound running c.take_frame-answer.ensures.settings c.take_frame-answer.ensures.opening
+    c.requires.sound running c.take_frame-answer.ensures.receives.settings c.take_frame-answer.ensures.opening
     (c.agreed_is_within.ensures.frame role config (connection_end old.connection) frame) (c.unfinished_is_held.ensures.feed role config (endpoint_view old) piece) (c.ends_are_bounded.ensures.frame role config (connection_end old.connection) frame)
-    by (ap (λ (s : Stream). s.pending) after) (ap (λ (s : Stream). s.fault) after) c.tune.ensures c.take_frame-answer.ensures.end c.take_frame-answer.ensures.output
+    by (ap (λ (s : Stream). s.pending) after) (ap (λ (s : Stream). s.fault) after) c.tune.ensures c.take_frame-answer.ensures.receives.end c.take_frame-answer.ensures.receives.output
     (frame_stands role config (endpoint_view old) old.splitter piece octets frame said (connection_end left.connection) (unfinished_of left.heard c.tune.new.splitter.pending) left.outbox
-    law by whole.within completes c.take_frame-answer.ensures.said c.take_frame-answer.ensures.end empty c.take_frame-answer.ensures.output)
+    law by whole.within completes c.take_frame-answer.ensures.receives.said c.take_frame-answer.ensures.receives.end empty c.take_frame-answer.ensures.receives.output)
 
 pub returns-clause-in_place : goal.returns-clause-in_place
 returns-clause-in_place c = λ drops.
@@ -134,7 +134,7 @@ returns-clause-in_place c = λ drops.
     let completes : Completes old.splitter (take octets piece) frame = whole.frame in
     let law = c.pieces_are_split.ensures.frame role config (endpoint_view old) old.splitter piece octets frame in
     let starts = none_pending role (connection_end old.connection) old.heard old.splitter old.outbox.output piece c.requires.sound.fields drops in
-    c.take_frame-answer.ensures.alone (given_dropped role (endpoint_view old) old.splitter piece octets frame c.one_frame_at_start.ensures drops starts completes)
+    c.take_frame-answer.ensures.receives.alone (given_dropped role (endpoint_view old) old.splitter piece octets frame c.one_frame_at_start.ensures drops starts completes)
 
 pub take_frame-answer-requires-clause-lends : goal.take_frame-answer-requires-clause-lends
 take_frame-answer-requires-clause-lends c = c.requires.lends
@@ -164,7 +164,7 @@ tune-requires-clause-fits c =
     let next = left_by_frame role config said (connection_end old.connection) frame in
     let left = connection_end c.take_frame-answer.new.self.connection in
     (frame_leaves role config (connection_end old.connection) (standing_in next left) frame (ran_out said) c.requires.sound.writes
-    (c.agreed_is_within.ensures.frame role config (connection_end old.connection) frame) (c.requires.sound.fields.awaited r.opened) c.requires.sound.fields.agreed (stands_in next left c.take_frame-answer.ensures.end)).0
+    (c.agreed_is_within.ensures.frame role config (connection_end old.connection) frame) (c.requires.sound.fields.awaited r.opened) c.requires.sound.fields.agreed (stands_in next left c.take_frame-answer.ensures.receives.end)).0
 
 pub tune-requires-clause-pending : goal.tune-requires-clause-pending
 tune-requires-clause-pending c =
@@ -209,4 +209,4 @@ returns-clause-heard c =
     frame_heard role config said (endpoint_view old) piece _ octets frame _ _ c.judged_is_said.ensures.one running
     (law by whole.within completes)
     (whole_of old.splitter (endpoint_view old) (take octets piece) frame by.splits completes)
-    c.take_frame-answer.ensures.heard c.take_frame-answer.ensures.at_fault
+    c.take_frame-answer.ensures.receives.heard c.take_frame-answer.ensures.receives.at_fault

@@ -1,7 +1,5 @@
 -- A frame that lies whole in the piece is that of the law on pieces.
-use Rattle.std.proofs.Common.{true, false, Some, ℕ, List, length, ◌≡◌, ◌<◌, ◌^◌, Option, None, [], ◌++◌, refl, take, IfSome, IfNone, IsOk, sym, ap, ◌∙◌, subst, arith}
-use Rattle.std.proofs.lemmas.Bool.{false≢true}
-use Rattle.std.proofs.Math.Seq.{take-length}
+use Rattle.std.proofs.Common.{true, false, Some, ◌≡◌, [], take, ap, ◌∙◌, subst, arith}
 use Rattle.amqp_frame.specs.Frame.{lent}
 use Rattle.amqp_frame.specs.Splitter.{Completes, after_taking, place_after}
 use Rattle.amqp_frame.specs.Stream.{Stream}
@@ -10,10 +8,8 @@ use Rattle.amqp_model.specs.Stream.Endpoint.{outcome_of}
 use Rattle.amqp_model.specs.Wire.Readings.{reading}
 use Rattle.amqp_outbox.specs.OutboxView.{Outgoing}
 use Rattle.amqp_channel.specs.Events.PartsView.{parts_there}
-use Rattle.amqp_channel.specs.declared.parts.EventParts.{EventParts}
-use Rattle.amqp_core.specs.Traced.AccountView.{note_there}
-use Rattle.amqp_core.specs.Faults.Answering.{is_out_of_memory, ran_out}
-use Rattle.amqp_core.specs.Faults.Blamed.{blames_octets, code_told, tally_view}
+use Rattle.amqp_core.specs.Faults.Answering.{ran_out}
+use Rattle.amqp_core.specs.Faults.Blamed.{tally_view}
 use Rattle.amqp_core.specs.Connection.View.{connection_end}
 use Rattle.amqp_core.specs.End.EndpointView.{endpoint_view, role_at, unfinished_of}
 use Rattle.amqp_core.specs.End.Feeding.{IsMessage}
@@ -29,13 +25,13 @@ use Rattle.amqp_core.specs.Heard.Hearing.{Hears}
 use Rattle.amqp_core.specs.Heard.View.{heard_view}
 use Rattle.amqp_core.specs.Traced.AccountView.{IsAccount, came_by, taken_by}
 use Rattle.amqp_core.proofs.WholeLemmas.{running_reads}
-use Rattle.amqp_core.proofs.AccountLemmas.{account_of_frame, account_of_rest, account_of_stop, came_fresh, item_is, rest_of, whole_of}
-use Rattle.amqp_core.proofs.GrowthLemmas.{frame_grows, stop_grows}
-use Rattle.amqp_core.proofs.BlameLemmas.{blames_of_fault, blames_of_frame, blames_of_rest, framing_broken}
-use Rattle.amqp_core.proofs.HeardLemmas.{fault_heard, frame_heard, rest_heard}
-use Rattle.amqp_core.proofs.BoundLemmas.{bounded_failed, bounded_frame}
-use Rattle.amqp_core.proofs.DropLemmas.{none_pending, frame_there, given_dropped}
-use Rattle.amqp_core.proofs.FeedLemmas.{sound_with, reads, takes, fed_by, frame_fed, rest_fed, fault_fed, first_fault, alone_in, stop_leaves, fed_holds, after_rest, after_frame, after_stop, fields_rest, fields_frame, fields_failed, frame_leaves, rest_unfinished, none_unfinished, unfinished_is}
+use Rattle.amqp_core.proofs.AccountLemmas.{account_of_frame, item_is, whole_of}
+use Rattle.amqp_core.proofs.GrowthLemmas.{frame_grows}
+use Rattle.amqp_core.proofs.BlameLemmas.{blames_of_frame}
+use Rattle.amqp_core.proofs.HeardLemmas.{frame_heard}
+use Rattle.amqp_core.proofs.BoundLemmas.{bounded_frame}
+use Rattle.amqp_core.proofs.DropLemmas.{none_pending, given_dropped}
+use Rattle.amqp_core.proofs.FeedLemmas.{sound_with, reads, takes, fed_by, frame_fed, alone_in, fed_holds, fields_frame, frame_leaves, none_unfinished}
 use Rattle.amqp_core.proofs.endpoint.Endpoint.read_running.Goals as goal
 
 pub read-answer-requires-clause-reads : goal.read-answer-requires-clause-reads
@@ -67,7 +63,7 @@ tune-requires-clause-fits c =
     let law = c.pieces_are_split.ensures.frame role config (endpoint_view old) old.splitter piece octets frame in
     let after : c.take_whole.new.self ≡ after_taking old.splitter piece octets (Some (Piece c.in-Some.frame)) = whole.after in
     let left = frame_leaves role config (connection_end old.connection) (connection_end c.receive-answer.new.self) frame (ran_out said) c.requires.sound.writes
-    (c.agreed_is_within.ensures.frame role config (connection_end old.connection) frame) (c.requires.sound.fields.awaited r.opened) c.requires.sound.fields.agreed c.receive-answer.ensures.end in
+    (c.agreed_is_within.ensures.frame role config (connection_end old.connection) frame) (c.requires.sound.fields.awaited r.opened) c.requires.sound.fields.agreed c.receive-answer.ensures.receives.end in
     left.0
 
 pub tune-requires-clause-pending : goal.tune-requires-clause-pending
@@ -93,7 +89,7 @@ returns-clause-fed c =
     let after : c.take_whole.new.self ≡ after_taking old.splitter piece octets (Some (Piece c.in-Some.frame)) = whole.after in
     let pending : c.tune.new.splitter.pending ≡ [] = ap (λ (s : Stream). s.pending) c.tune.ensures ∙ ap (λ (s : Stream). s.pending) after in
     frame_fed role config (endpoint_view old) old.splitter piece octets c.receive-answer.new.account.octets frame said (parts_there c.receive-answer.new.account.parts) (connection_end c.receive-answer.new.self) (unfinished_of old.heard c.tune.new.splitter.pending) c.receive-answer.new.outbox
-    law by whole.within completes c.receive-answer.ensures.octets c.receive-answer.ensures.said c.receive-answer.ensures.end (none_unfinished old.heard c.tune.new.splitter.pending none pending) c.receive-answer.ensures.output
+    law by whole.within completes c.receive-answer.ensures.receives.octets c.receive-answer.ensures.receives.said c.receive-answer.ensures.receives.end (none_unfinished old.heard c.tune.new.splitter.pending none pending) c.receive-answer.ensures.receives.output
 
 pub returns-clause-sound : goal.returns-clause-sound
 returns-clause-sound c =
@@ -113,11 +109,11 @@ returns-clause-sound c =
     let law = c.pieces_are_split.ensures.frame role config (endpoint_view old) old.splitter piece octets frame in
     let after : c.take_whole.new.self ≡ after_taking old.splitter piece octets (Some (Piece c.in-Some.frame)) = whole.after in
     let left = frame_leaves role config (connection_end old.connection) (connection_end c.receive-answer.new.self) frame (ran_out said) c.requires.sound.writes
-    (c.agreed_is_within.ensures.frame role config (connection_end old.connection) frame) (c.requires.sound.fields.awaited r.opened) c.requires.sound.fields.agreed c.receive-answer.ensures.end in
-    sound_with old.connection.settings (record { connection = c.receive-answer.new.self; splitter = c.tune.new.splitter; heard = old.heard; outbox = c.receive-answer.new.outbox; tally = c.receive-answer.new.tally }) c.receive-answer.ensures.settings c.requires.sound.writes (ap (λ (o : Outgoing). o.staged) c.receive-answer.ensures.output)
+    (c.agreed_is_within.ensures.frame role config (connection_end old.connection) frame) (c.requires.sound.fields.awaited r.opened) c.requires.sound.fields.agreed c.receive-answer.ensures.receives.end in
+    sound_with old.connection.settings (record { connection = c.receive-answer.new.self; splitter = c.tune.new.splitter; heard = old.heard; outbox = c.receive-answer.new.outbox; tally = c.receive-answer.new.tally }) c.receive-answer.ensures.receives.settings c.requires.sound.writes (ap (λ (o : Outgoing). o.staged) c.receive-answer.ensures.receives.output)
     (fields_frame role (connection_end old.connection) (connection_end c.receive-answer.new.self) old.heard old.splitter c.take_whole.new.self c.tune.new.splitter (place_after old.splitter.taken octets) running c.requires.sound.fields after c.tune.ensures left.0 left.1)
     (fed_holds role config (endpoint_view old) _ old.splitter piece _ (c.unfinished_is_held.ensures.feed role config (endpoint_view old) piece) by (returns-clause-fed c))
-    (bounded_frame role config (connection_end old.connection) (connection_end c.receive-answer.new.self) frame (ran_out said) (c.ends_are_bounded.ensures.frame role config (connection_end old.connection) frame) r.octets c.requires.sound.bounded c.receive-answer.ensures.end)
+    (bounded_frame role config (connection_end old.connection) (connection_end c.receive-answer.new.self) frame (ran_out said) (c.ends_are_bounded.ensures.frame role config (connection_end old.connection) frame) r.octets c.requires.sound.bounded c.receive-answer.ensures.receives.end)
 
 pub returns-clause-in_place : goal.returns-clause-in_place
 returns-clause-in_place c = λ drops.
@@ -137,7 +133,7 @@ returns-clause-in_place c = λ drops.
     let law = c.pieces_are_split.ensures.frame role config (endpoint_view old) old.splitter piece octets frame in
     let after : c.take_whole.new.self ≡ after_taking old.splitter piece octets (Some (Piece c.in-Some.frame)) = whole.after in
     let starts = none_pending role (connection_end old.connection) old.heard old.splitter old.outbox.output piece c.requires.sound.fields drops in
-    c.receive-answer.ensures.alone (given_dropped role (endpoint_view old) old.splitter piece octets frame c.one_frame_at_start.ensures drops starts completes)
+    c.receive-answer.ensures.receives.alone (given_dropped role (endpoint_view old) old.splitter piece octets frame c.one_frame_at_start.ensures drops starts completes)
 
 pub returns-clause-account : goal.returns-clause-account
 returns-clause-account c = λ ran.
@@ -158,11 +154,11 @@ returns-clause-account c = λ ran.
     let after : c.take_whole.new.self ≡ after_taking old.splitter piece octets (Some (Piece c.in-Some.frame)) = whole.after in
     let item = item_is said c.receive-answer.new.account.octets (parts_there c.receive-answer.new.account.parts)
     (outcome_of (facts_at config (connection_end old.connection) frame.channel) (end_verdict config (connection_end old.connection) frame))
-    c.receive-answer.ensures.said ran in
+    c.receive-answer.ensures.receives.said ran in
     account_of_frame role config (endpoint_view old) piece _ octets _ frame _ c.judged_is_said.ensures.one running
     (law by whole.within completes)
-    (whole_of old.splitter (endpoint_view old) (take octets piece) frame by.splits completes) c.receive-answer.ensures.octets
-    (λ i. record { took = c.receive-answer.ensures.took i; item = item i; owed = c.receive-answer.ensures.owed ran i })
+    (whole_of old.splitter (endpoint_view old) (take octets piece) frame by.splits completes) c.receive-answer.ensures.receives.octets
+    (λ i. record { took = c.receive-answer.ensures.receives.took i; item = item i; owed = c.receive-answer.ensures.receives.owed ran i })
 
 pub returns-clause-grows : goal.returns-clause-grows
 returns-clause-grows c =
@@ -182,13 +178,13 @@ returns-clause-grows c =
     let law = c.pieces_are_split.ensures.frame role config (endpoint_view old) old.splitter piece octets frame in
     let after : c.take_whole.new.self ≡ after_taking old.splitter piece octets (Some (Piece c.in-Some.frame)) = whole.after in
     frame_grows old.connection.settings (connection_end old.connection) frame said c.receive-answer.new.account.owed old.outbox.output c.receive-answer.new.outbox c.requires.sound.writes
-    (c.frames_are_within.ensures.verdict role (facts_at config (connection_end old.connection) frame.channel) (reading frame)) c.receive-answer.ensures.owed c.receive-answer.ensures.output
+    (c.frames_are_within.ensures.verdict role (facts_at config (connection_end old.connection) frame.channel) (reading frame)) c.receive-answer.ensures.receives.owed c.receive-answer.ensures.receives.output
 
 pub returns-clause-message : goal.returns-clause-message
 returns-clause-message c =
     let old = c.args.self.now in
     alone_in c.receive-answer.result (IsMessage (parts_there c.receive-answer.new.account.parts)) (connection_end old.connection) (connection_end c.receive-answer.new.self) [] []
-    (unfinished_of old.heard old.splitter.pending) (unfinished_of old.heard c.tune.new.splitter.pending) old.outbox.output c.receive-answer.new.outbox.output c.receive-answer.ensures.message
+    (unfinished_of old.heard old.splitter.pending) (unfinished_of old.heard c.tune.new.splitter.pending) old.outbox.output c.receive-answer.new.outbox.output c.receive-answer.ensures.receives.message
 
 pub returns-clause-tally : goal.returns-clause-tally
 returns-clause-tally c =
@@ -231,7 +227,7 @@ returns-clause-heard c =
     frame_heard role config said (endpoint_view old) piece _ octets frame _ _ c.judged_is_said.ensures.one running
     (law by whole.within completes)
     (whole_of old.splitter (endpoint_view old) (take octets piece) frame by.splits completes)
-    c.receive-answer.ensures.heard c.receive-answer.ensures.at_fault
+    c.receive-answer.ensures.receives.heard c.receive-answer.ensures.receives.at_fault
 
 -- Otherwise nothing was taken yet.
 
