@@ -1,17 +1,20 @@
 -- What is kept of the other end's words is what the definitions say.
-use Rattle.std.proofs.Common.{◌≡◌, ◌&&◌, ◌==◌, Bool, true, false, cond, ℕ, List, ◌++◌, take, Option, Some, None, Result, Ok, Err, OnErr, OnOk, IsOk, refl, sym, ap, ◌∙◌, subst}
+use Rattle.std.proofs.Common.{◌≡◌, ◌&&◌, ◌==◌, ◌+◌, ◌<◌, ◌≤◌, Bool, true, false, cond, ℕ, List, [], ◌∷◌, ◌++◌, length, get_or, take, drop, insert, Option, Some, None, Result, Ok, Err, OnErr, OnOk, IsOk, refl, sym, ap, ◌∙◌, subst, add-one, drop-cons}
 use Rattle.std.proofs.lemmas.Bool.{false≢true}
+use Rattle.std.proofs.lemmas.List.{drop_all}
 use Rattle.amqp_frame.specs.Frame as frames
 use Rattle.amqp_frame.specs.Splitting.{IsRest}
 use Rattle.amqp_frame.specs.declared.frames.FrameKind.{FrameKind}
+use Rattle.amqp_method.specs.MethodView.{method_view}
 use Rattle.amqp_method.specs.declared.kinds.Kind.TheVariants as kinds
+use Rattle.amqp_method.specs.declared.methods.Method as code
 use Rattle.amqp_model.specs.End.Closes.{Cause}
 use Rattle.amqp_model.specs.End.Channels.{End, Phase, Handshake, Running, Closing, Closed, Failed}
 use Rattle.amqp_model.specs.End.EndVerdict.{goes_on}
 use Rattle.amqp_model.specs.End.Events as events
 use Rattle.amqp_model.specs.End.FrameVerdict.{is_awaited}
 use Rattle.amqp_model.specs.End.Heard as model
-use Rattle.amqp_model.specs.End.Heard.{awaited_by, heard_after, hears}
+use Rattle.amqp_model.specs.End.Heard.{awaited_by, heard_after, hears, or_earlier}
 use Rattle.amqp_model.specs.End.Machine.{taken_verdict}
 use Rattle.amqp_model.specs.History.Negotiation.{Config, frame_limit}
 use Rattle.amqp_model.specs.Laws.OctetLaws.{IsWhole, OneIsSaid, event_of_frame}
@@ -33,7 +36,7 @@ use Rattle.amqp_core.specs.Connection.View.{frame_at}
 use Rattle.amqp_core.specs.End.Feeding.{seen, taken_with}
 use Rattle.amqp_core.specs.Connection.Handshakes.{awaited_in}
 use Rattle.amqp_core.specs.Heard.Hearing.{Hears, HearsFrame}
-use Rattle.amqp_core.specs.Heard.View.{Said, cause_here, closes_by, goes_by, heard_here, notice_closes, said_after, said_by, told_closes}
+use Rattle.amqp_core.specs.Heard.View.{Said, cause_here, closes_by, goes_by, heard_here, newest, notice_closes, said_after, said_by, said_in, told_closes}
 use Rattle.amqp_core.specs.Config.Settings.{config_view}
 use Rattle.amqp_core.specs.Stream.StepView.{seen_by, step_seen}
 use Rattle.amqp_core.specs.Connection.Verdicts.{FitsEventOf, FrameRules, event_by, noticed, verdict_here}
@@ -66,32 +69,68 @@ kept_as : (method : Method) (kept : model.Heard) (kind : MethodKind) → same_ki
     → heard_after (Some method) kept ≡ with_kind kind method kept
 kept_as method kept kind e = ap (λ k. with_kind k method kept) (same_is method.kind kind e)
 
-pub kept_start : (method : Method) (kept : model.Heard) → same_kind method.kind kinds.ConnectionStart ≡ true
-    → heard_after (Some method) kept ≡ record kept { start = Some method }
-kept_start method kept e = kept_as method kept kinds.ConnectionStart e
-
-pub kept_start_ok : (method : Method) (kept : model.Heard) → same_kind method.kind kinds.ConnectionStartOk ≡ true
-    → heard_after (Some method) kept ≡ record kept { start_ok = Some method }
-kept_start_ok method kept e = kept_as method kept kinds.ConnectionStartOk e
-
-pub kept_tune : (method : Method) (kept : model.Heard) → same_kind method.kind kinds.ConnectionTune ≡ true
-    → heard_after (Some method) kept ≡ record kept { tune = Some method }
-kept_tune method kept e = kept_as method kept kinds.ConnectionTune e
-
-pub kept_tune_ok : (method : Method) (kept : model.Heard) → same_kind method.kind kinds.ConnectionTuneOk ≡ true
-    → heard_after (Some method) kept ≡ record kept { tune_ok = Some method }
-kept_tune_ok method kept e = kept_as method kept kinds.ConnectionTuneOk e
-
-pub kept_open : (method : Method) (kept : model.Heard) → same_kind method.kind kinds.ConnectionOpen ≡ true
-    → heard_after (Some method) kept ≡ record kept { connection_open = Some method }
-kept_open method kept e = kept_as method kept kinds.ConnectionOpen e
-
 -- open-ok is kept nowhere
 pub kept_nowhere : (method : Method) (kept : model.Heard) → same_kind method.kind kinds.ConnectionOpenOk ≡ true
     → heard_after (Some method) kept ≡ kept
 kept_nowhere method kept e = kept_as method kept kinds.ConnectionOpenOk e
 
-pub ruleset kept_in_step = (kept_start, kept_start_ok, kept_tune, kept_tune_ok, kept_open, kept_nowhere)
+-- a method that is kept before others
+pub kept_first : (method : code.Method) (before : List code.Method) → said_in (insert before 0 method) ≡ heard_after (Some (method_view method)) (said_in before)
+kept_first method [] = refl
+kept_first method (one ∷ before) = refl
+
+pub ruleset kept_in_step = (kept_first, kept_nowhere)
+
+-- What is kept of a kind is the newest of the methods.
+
+pub newest_start : (methods : List code.Method) → newest kinds.ConnectionStart methods ≡ (said_in methods).start
+newest_start [] = refl
+newest_start (method ∷ earlier) = ap (or_earlier kinds.ConnectionStart (Some (method_view method))) (newest_start earlier)
+
+pub newest_start_ok : (methods : List code.Method) → newest kinds.ConnectionStartOk methods ≡ (said_in methods).start_ok
+newest_start_ok [] = refl
+newest_start_ok (method ∷ earlier) = ap (or_earlier kinds.ConnectionStartOk (Some (method_view method))) (newest_start_ok earlier)
+
+pub newest_tune : (methods : List code.Method) → newest kinds.ConnectionTune methods ≡ (said_in methods).tune
+newest_tune [] = refl
+newest_tune (method ∷ earlier) = ap (or_earlier kinds.ConnectionTune (Some (method_view method))) (newest_tune earlier)
+
+pub newest_tune_ok : (methods : List code.Method) → newest kinds.ConnectionTuneOk methods ≡ (said_in methods).tune_ok
+newest_tune_ok [] = refl
+newest_tune_ok (method ∷ earlier) = ap (or_earlier kinds.ConnectionTuneOk (Some (method_view method))) (newest_tune_ok earlier)
+
+pub newest_open : (methods : List code.Method) → newest kinds.ConnectionOpen methods ≡ (said_in methods).connection_open
+newest_open [] = refl
+newest_open (method ∷ earlier) = ap (or_earlier kinds.ConnectionOpen (Some (method_view method))) (newest_open earlier)
+
+pub ruleset newest_kept = (newest_start, newest_start_ok, newest_tune, newest_tune_ok, newest_open)
+
+-- among those from a place on
+pub newest_at : (kind : MethodKind) (methods : List code.Method) (i : ℕ) (d : code.Method) → i < length methods
+    → newest kind (drop i methods) ≡ or_earlier kind (Some (method_view (get_or methods i d))) (newest kind (drop (i + 1) methods))
+newest_at kind methods i d h = rw (add-one, drop-cons methods i d) refl
+
+pub newest_here : (kind : MethodKind) (methods : List code.Method) (i : ℕ) (method d : code.Method) → i < length methods
+    → method ≡ get_or methods i d → same_kind (method_view method).kind kind ≡ true → newest kind (drop i methods) ≡ Some (method_view method)
+newest_here kind methods i method d h is same =
+    let later = newest kind (drop (i + 1) methods) in
+    newest_at kind methods i d h
+    ∙ (ap (λ (m : code.Method). or_earlier kind (Some (method_view m)) later) (sym is)
+    ∙ ap (λ (b : Bool). cond b (Some (method_view method)) later) same)
+
+pub newest_later : (kind : MethodKind) (methods : List code.Method) (i : ℕ) (method d : code.Method) → i < length methods
+    → method ≡ get_or methods i d → same_kind (method_view method).kind kind ≡ false
+    → newest kind (drop i methods) ≡ newest kind (drop (i + 1) methods)
+newest_later kind methods i method d h is other =
+    let later = newest kind (drop (i + 1) methods) in
+    newest_at kind methods i d h
+    ∙ (ap (λ (m : code.Method). or_earlier kind (Some (method_view m)) later) (sym is)
+    ∙ ap (λ (b : Bool). cond b (Some (method_view method)) later) other)
+
+pub newest_past : (kind : MethodKind) (methods : List code.Method) (i : ℕ) → length methods ≤ i → newest kind (drop i methods) ≡ None
+newest_past kind methods i h = rw (drop_all i methods h) refl
+
+pub ruleset newest_from = (newest_at, newest_past)
 
 -- The method that is awaited, on channel 0, where the end goes on.
 

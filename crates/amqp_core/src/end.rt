@@ -144,7 +144,7 @@ impl<R: Role> End<R> {
             role: PhantomData,
             frames_taken: 0,
             octets_written: 0,
-            heard: Heard::nothing(),
+            heard: Heard::nothing(alloc),
         })
     }
 

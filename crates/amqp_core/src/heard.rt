@@ -1,16 +1,20 @@
 //! What a close is about; and what an end keeps of what the other end said: the methods of the handshake, and what
 //! its last close was about.
-ghost use Rattle.std.specs.Prelude.{◌≡◌, true, Some, None, option_copied};
+ghost use Rattle.std.specs.Prelude.{◌≡◌, true, Some, None, OnOk, option_copied};
 ghost use Rattle.amqp_method.specs.Kinds.{kind_with};
 ghost use Rattle.amqp_method.specs.MethodRefView.{lent_call};
 ghost use Rattle.amqp_method.specs.MethodView.{method_view};
 ghost use Rattle.amqp_model.specs.End.Heard.{heard_after, nothing_heard};
 ghost use Rattle.amqp_channel.specs.Events.Closes.{IsClose};
 ghost use Rattle.amqp_core.specs.Heard.Causes.{cause_in};
+ghost use Rattle.amqp_core.specs.Heard.View.{method_there, newest};
 ghost use Rattle.amqp_core.specs.Connection.Handshakes.{awaits_at};
 
+use crate::faults::OutOfMemory;
 use crate::stage::Stage;
+use amqp_channel::words::same;
 use amqp_method::{Kind, Method, MethodRef};
+use std::alloc::Global;
 
 /// What a close is about: the class and the method of the frame for which an end closed. Both are 0 where it names
 /// none.
@@ -68,13 +72,12 @@ impl Cause {
     }
 }
 
-/// The last method of each kind that the end heard in the handshake, and what the last close was about that it told of.
+/// How many methods an end hears in the handshake: a server hears start-ok, tune-ok and open, a client start and tune.
+const MOST_HEARD: usize = 3;
+
+/// The methods that the end heard in the handshake, the newest first, and what the last close was about that it told of.
 pub(crate) struct Heard {
-    pub(crate) start: Option<Method>,
-    pub(crate) start_ok: Option<Method>,
-    pub(crate) tune: Option<Method>,
-    pub(crate) tune_ok: Option<Method>,
-    pub(crate) open: Option<Method>,
+    pub(crate) methods: Vec<Method>,
     pub(crate) closed_for: Option<Cause>,
 }
 
@@ -82,82 +85,78 @@ pub(crate) struct Heard {
 impl Drop for Heard {
     fn drop(self) {
         let Heard {
-            start: _,
-            start_ok: _,
-            tune: _,
-            tune_ok: _,
-            open: _,
+            methods: _,
             closed_for: _,
         } = self;
     }
 }
 
+/// The newest of the methods that are of a kind.
+#[tactic(auto, using(crate::proofs::HeardLemmas::newest_from))]
+fn newest_of(methods: &[Method], kind: Kind) -> Option<&Method>
+    ensures { method_there (option_copied result) ≡ newest kind methods.now }
+{
+    for method in methods {
+        if same(method.kind(), kind) {
+            return Some(method);
+        }
+    }
+    None
+}
+
 impl Heard {
-    ghost use Rattle.amqp_core.specs.Heard.View.{heard_view, kept_of_kind, method_there, methods_view, nothing_said};
+    ghost use Rattle.amqp_core.specs.Heard.View.{heard_view, kept_of_kind, methods_view, nothing_said};
 
     /// Nothing was heard yet.
-    pub(crate) fn nothing() -> Heard
+    pub(crate) fn nothing(alloc: Global) -> Heard
         ensures { heard_view result ≡ nothing_said }
     {
         Heard {
-            start: None,
-            start_ok: None,
-            tune: None,
-            tune_ok: None,
-            open: None,
+            methods: Vec::new(alloc),
             closed_for: None,
         }
     }
 
-    /// Keeps the method that a stage of the handshake awaited, in the place of the one of its kind.
+    /// Keeps the method that a stage of the handshake awaited, before those that are kept. It has room for all that an
+    /// end hears, and no more.
     #[inline(never)]
     #[tactic(auto, using(crate::proofs::HeardLemmas::kept_in_step))]
-    pub(crate) fn keep(&mut self, stage: Stage, method: Method)
+    pub(crate) fn keep(&mut self, stage: Stage, method: Method) -> Result<(), OutOfMemory>
         requires { awaits_at stage (method_view method).kind ≡ true }
-        ensures methods { methods_view self.new ≡ heard_after (Some (method_view method)) (methods_view self.old) }
+        ensures methods { OnOk result (methods_view self.new
+            ≡ heard_after (Some (method_view method)) (methods_view self.old)) }
         ensures cause { self.new.closed_for ≡ self.old.closed_for }
     {
-        match stage {
-            Stage::AwaitsStart => self.start = Some(method),
-            Stage::AwaitsStartOk => self.start_ok = Some(method),
-            Stage::AwaitsTune => self.tune = Some(method),
-            Stage::AwaitsTuneOk => self.tune_ok = Some(method),
-            Stage::AwaitsOpen(_) => self.open = Some(method),
-            Stage::AwaitsOpenOk(_) => drop(method),
-            Stage::AwaitsProtocolHeader => unreachable!(),
-            Stage::HoldsStart => unreachable!(),
-            Stage::HoldsLogin => unreachable!(),
-            Stage::HoldsOpen(_) => unreachable!(),
-            Stage::Running(_) => unreachable!(),
-            Stage::Closing(_) => unreachable!(),
-            Stage::Closed(_) => unreachable!(),
-            Stage::Failed(_) => unreachable!(),
+        if let Stage::AwaitsOpenOk(_) = stage {
+            return Ok(());
         }
+        if self.methods.is_empty() {
+            self.methods.reserve_exact(MOST_HEARD)?;
+        }
+        self.methods.insert(0, method)?;
+        Ok(())
     }
 
     /// What is kept of this kind.
+    #[tactic(auto, using(crate::proofs::HeardLemmas::newest_kept))]
     pub(crate) fn of(&self, kind: Kind) -> Option<&Method>
         ensures { method_there (option_copied result) ≡ kept_of_kind kind (methods_view self.now) }
     {
         match kind {
-            Kind::ConnectionStart => self.start.as_ref(),
-            Kind::ConnectionStartOk => self.start_ok.as_ref(),
-            Kind::ConnectionTune => self.tune.as_ref(),
-            Kind::ConnectionTuneOk => self.tune_ok.as_ref(),
-            Kind::ConnectionOpen => self.open.as_ref(),
+            Kind::ConnectionStart => newest_of(&self.methods, Kind::ConnectionStart),
+            Kind::ConnectionStartOk => newest_of(&self.methods, Kind::ConnectionStartOk),
+            Kind::ConnectionTune => newest_of(&self.methods, Kind::ConnectionTune),
+            Kind::ConnectionTuneOk => newest_of(&self.methods, Kind::ConnectionTuneOk),
+            Kind::ConnectionOpen => newest_of(&self.methods, Kind::ConnectionOpen),
             _ => None,
         }
     }
 
-    /// Forgets the methods of the handshake.
+    /// Forgets the methods of the handshake, and gives back their room.
     pub(crate) fn forget(&mut self)
         ensures methods { methods_view self.new ≡ nothing_heard }
         ensures cause { self.new.closed_for ≡ self.old.closed_for }
     {
-        self.start = None;
-        self.start_ok = None;
-        self.tune = None;
-        self.tune_ok = None;
-        self.open = None;
+        self.methods = Vec::new(*self.methods.allocator());
     }
 }

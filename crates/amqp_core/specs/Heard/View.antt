@@ -1,13 +1,13 @@
 -- What an end keeps of what the other end said, in the words of the model: the last method of each kind that it heard
 -- in the handshake, and what the last close was about that it told of.
-use Rattle.std.specs.Prelude.{◌&&◌, ◌==◌, Bool, true, false, cond, ℕ, Option, Some, None}
+use Rattle.std.specs.Prelude.{◌&&◌, ◌==◌, Bool, true, false, cond, ℕ, List, [], ◌∷◌, Option, Some, None}
 use Rattle.amqp_method.specs.MethodView.{method_view}
 use Rattle.amqp_method.specs.declared.kinds.Kind.TheVariants as kinds
 use Rattle.amqp_method.specs.declared.methods.Method as code
 use Rattle.amqp_model.specs.End.Channels.{End, Phase}
 use Rattle.amqp_model.specs.End.Closes.{Cause}
 use Rattle.amqp_model.specs.End.Heard as model
-use Rattle.amqp_model.specs.End.Heard.{heard_after, hears, nothing_heard}
+use Rattle.amqp_model.specs.End.Heard.{heard_after, hears, nothing_heard, or_earlier}
 use Rattle.amqp_model.specs.History.Negotiation.{Config}
 use Rattle.amqp_model.specs.Laws.OctetLaws.{event_of_frame}
 use Rattle.amqp_model.specs.Wire.Frame.{Frame}
@@ -43,16 +43,19 @@ pub record Said : Type 0 where
   -- what the last close was about
   pub cause : Option Cause
 
+-- what methods come to that were heard one after the other, the newest first
+abbrev pub said_in : List code.Method → model.Heard
+said_in [] = nothing_heard
+said_in (method ∷ earlier) = heard_after (Some (method_view method)) (said_in earlier)
+
+-- the newest of them that is of this kind
+abbrev pub newest : MethodKind → List code.Method → Option Method
+newest kind [] = None
+newest kind (method ∷ earlier) = or_earlier kind (Some (method_view method)) (newest kind earlier)
+
 -- of the handshake
 abbrev pub methods_view : Heard → model.Heard
-methods_view heard =
-    record {
-      start = method_there heard.start;
-      start_ok = method_there heard.start_ok;
-      tune = method_there heard.tune;
-      tune_ok = method_there heard.tune_ok;
-      connection_open = method_there heard.open;
-    }
+methods_view heard = said_in heard.methods.items
 
 abbrev pub heard_view : Heard → Said
 heard_view heard = record { methods = methods_view heard; cause = cause_there heard.closed_for }

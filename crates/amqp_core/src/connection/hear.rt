@@ -153,7 +153,7 @@ impl Connection {
         };
         if self.stage.awaits(method.kind()) && number == 0 && verdict.goes_on() {
             let method = method.to_owned(self.alloc)?;
-            heard.keep(self.stage, method);
+            heard.keep(self.stage, method)?;
         }
         Ok(())
     }
