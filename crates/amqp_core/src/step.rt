@@ -2,7 +2,7 @@
 //!
 //! The frame lies in the piece, or in the end's own buffer. A step borrows the piece alone, so the end can be asked and
 //! written before the event is taken.
-ghost use Rattle.std.specs.Prelude.{◌≡◌, IsOk, Ok, Option, Some};
+ghost use Rattle.std.specs.Prelude.{◌≡◌, IfSome, IsOk, None, Ok, Option, Some};
 ghost use Rattle.amqp_frame.specs.Frame.{Frame};
 ghost use Rattle.amqp_channel.specs.Events.PartsView.{parts_there};
 ghost use Rattle.amqp_channel.specs.ReadingView.{reading_view};
@@ -40,6 +40,23 @@ pub(crate) enum Came<'a> {
 pub struct Step<'a> {
     pub octets: usize,
     pub(crate) came: Option<Came<'a>>,
+}
+
+impl<'a> Step<'a> {
+    /// The event, where the frame lies in the piece: it lends of the piece alone, so the end can go on. None where no
+    /// frame was finished, and where the frame lies in the end's buffer, whose event
+    /// [`StreamEnd::event`](crate::StreamEnd::event) lends.
+    #[inline(always)]
+    pub fn in_piece(self) -> Option<EventRef<'a>>
+        ensures event { event_ref_there result ≡ came_lent self.entry.came None }
+        ensures alone { IfSome result (λ event. (given : Option Frame) → came_lent self.entry.came given
+            ≡ came_lent self.entry.came None) }
+    {
+        match self.came? {
+            Came::Told(event) => Some(event),
+            Came::Buffered(_, _) => None,
+        }
+    }
 }
 
 /// The event of a frame of a channel.
