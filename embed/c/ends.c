@@ -60,7 +60,15 @@ typedef struct seen_event {
 	bool holds;
 } seen_event;
 
+/* An event in its place of a batch: as mt_event. */
+typedef struct event_place {
+	seen_event seen;
+	size_t taken;
+} event_place;
+
 _Static_assert(sizeof(seen_event) <= offsetof(mt_event, taken), "what is shown is the first part of an event");
+_Static_assert(sizeof(event_place) == sizeof(mt_event), "an event has a place");
+_Static_assert(offsetof(event_place, taken) == offsetof(mt_event, taken), "an event has a place");
 _Static_assert(offsetof(seen_event, text) == offsetof(mt_event, text), "members of an event in their order");
 _Static_assert(offsetof(seen_event, frame_max) == offsetof(mt_event, frame_max), "members of an event in their order");
 _Static_assert(offsetof(seen_event, code) == offsetof(mt_event, code), "members of an event in their order");
@@ -121,6 +129,8 @@ uint32_t proved_end_close(slot *slot);
 uint32_t proved_end_make_place(slot *slot, size_t place);
 uint32_t proved_end_feed(slot *slot, size_t place, const uint8_t *piece, size_t length, fed_end *fed);
 uint32_t proved_end_feed_lent(slot *slot, const uint8_t *piece, size_t length, fed_end *fed, seen_event *seen);
+uint32_t proved_end_lend_batch(slot *slot, const uint8_t *piece, size_t length, event_place *places, size_t capacity,
+			       fed_end *fed, size_t *count);
 uint32_t proved_end_event(slot *slot, size_t place, seen_event *seen);
 uint32_t proved_end_output(slot *slot, mt_octets *output);
 uint32_t proved_end_wrote(slot *slot, size_t length);
@@ -288,50 +298,6 @@ static uint32_t show(mt_end *end, size_t place, mt_event *event)
 	return proved_end_event((slot *)end, place, seen_of(event));
 }
 
-/* Whether octets lie in the piece, or there are none: the next feed leaves them as they are. */
-static bool lie_in(mt_octets octets, const uint8_t *piece, size_t length)
-{
-	return octets.length == 0 || ((uintptr_t)octets.at >= (uintptr_t)piece &&
-				      (uintptr_t)octets.at < (uintptr_t)piece + length);
-}
-
-/* Whether all that an event lends lies in the piece. */
-static bool lies_in(const mt_event *event, const uint8_t *piece, size_t length)
-{
-	return lie_in(event->method, piece, length) && lie_in(event->header, piece, length) &&
-	       lie_in(event->body, piece, length) && lie_in(event->text, piece, length);
-}
-
-/* Feeds it again and again, up to the end of what lies in the piece: of its frames only the first can have begun in an
- * earlier piece. */
-static uint32_t feed_lent_batch(mt_end *end, const uint8_t *piece, size_t length, mt_event *events, size_t capacity,
-				size_t *count, size_t *taken, uint16_t *code)
-{
-	fed_end fed = {0, 0, MT_EVENT_NONE};
-	size_t found = 0, at = 0;
-	uint32_t status = MT_OK;
-
-	while (found < capacity && at < length) {
-		mt_event *event = &events[found];
-
-		*event = NO_EVENT;
-		status = proved_end_feed_lent((slot *)end, piece + at, length - at, &fed, seen_of(event));
-		if (status != MT_OK)
-			break;
-		at += fed.taken;
-		event->taken = at;
-		if (fed.kind == MT_EVENT_NONE)
-			break;
-		if (++found == 1 && !lies_in(event, piece, length))
-			break;
-	}
-	*count = found;
-	*taken = at;
-	if (code)
-		*code = fed.code;
-	return status;
-}
-
 /* Feeds an end that keeps its events, and shows the event. */
 static uint32_t feed_and_show(mt_end *end, const uint8_t *piece, size_t length, mt_event *event)
 {
@@ -373,26 +339,24 @@ uint32_t mt_end_event(mt_end *end, mt_event *event)
 uint32_t mt_end_feed_batch(mt_end *end, const uint8_t *piece, size_t length, mt_event *events, size_t capacity,
 			   size_t *count, size_t *taken, uint16_t *code)
 {
+	fed_end fed = {0, 0, MT_EVENT_NONE};
 	size_t found = 0, at = 0;
 	uint32_t status;
-	uint16_t last = 0;
 
 	WANTED(end && events && count && taken && (piece || length == 0));
 	*count = 0;
-	*taken = 0;
+	status = proved_end_lend_batch((slot *)end, piece ? piece : NOTHING, length, (event_place *)events, capacity, &fed,
+				       count);
+	*taken = fed.taken;
 	if (code)
-		*code = 0;
-	status = proved_end_make_place((slot *)end, 0);
-	if (status == MT_OTHER_KIND)
-		return feed_lent_batch(end, piece ? piece : NOTHING, length, events, capacity, count, taken, code);
-	if (capacity == 0 || length == 0)
+		*code = fed.code;
+	if (status != MT_OTHER_KIND)
 		return status;
+	status = proved_end_make_place((slot *)end, 0);
 	while (status == MT_OK && found < capacity && at < length) {
-		fed_end fed = {0, 0, MT_EVENT_NONE};
-
+		fed = (fed_end){0, 0, MT_EVENT_NONE};
 		status = feed_at(end, found, piece + at, length - at, &fed);
 		at += fed.taken;
-		last = fed.code;
 		if (status == MT_OK && fed.kind != MT_EVENT_NONE) {
 			events[found] = NO_EVENT;
 			events[found++].taken = at;
@@ -401,7 +365,7 @@ uint32_t mt_end_feed_batch(mt_end *end, const uint8_t *piece, size_t length, mt_
 	*count = found;
 	*taken = at;
 	if (code)
-		*code = last;
+		*code = fed.code;
 	for (size_t i = 0; i < found; ++i) {
 		uint32_t shown = show(end, i, &events[i]);
 

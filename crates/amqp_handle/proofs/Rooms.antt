@@ -37,7 +37,7 @@ use Rattle.std_heap.proofs.Global.TheLaws.{the_row_laws as heap_laws}
 use Rattle.std_heap.specs.contracts.Global.{the_row as heap}
 use Rattle.std_heap.specs.contracts.GlobalAllocator.TheImpl.{ghosts}
 use Rattle.std_heap.proofs.Handle.{heap_val, heap_Tells}
-use Rattle.amqp_handle.specs.declared.held.Held.TheVariants.{Splitter}
+use Rattle.amqp_handle.specs.declared.held.Held.TheVariants.{Splitter, Content}
 use Rattle.amqp_handle.specs.Slots.{slot_owns}
 use Rattle.amqp_handle.specs.contracts.held.Held.{the_row as held}
 use Rattle.amqp_handle.proofs.Opened.{is_owner}
@@ -87,6 +87,7 @@ taken_word w b o = vstruct (vcons w (vcons (room_word b o) vnil))
 -- nothing is said of a held value that was given away
 pub held_blank : (x : held.Denot) (w : Last (held.exit yes) x) → T (blank (left (held.exit yes) x w))
 held_blank (Splitter s) w = tt
+held_blank (Content c) w = tt
 
 both : (x y : Bool) → T x → T y → T (x && y)
 both true y p q = q

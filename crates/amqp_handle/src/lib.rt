@@ -5,12 +5,14 @@
 //! misread.
 #![tactic(auto)]
 
+mod content;
 mod end_slot;
 mod faults;
 mod held;
 mod kept;
 mod slot;
 
+pub use crate::content::Content;
 pub use crate::end_slot::EndSlot;
 pub use crate::faults::HandleFault;
 pub use crate::held::Held;

@@ -2,6 +2,7 @@ pub mod Begun
 pub mod Counting
 pub mod KeptEnds
 pub mod LentHeaders
+pub mod LentPlaces
 pub mod Sent
 pub mod SplitFrames
 pub mod Unwritten

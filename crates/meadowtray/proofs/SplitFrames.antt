@@ -14,7 +14,7 @@ use Rattle.meadowtray.specs.declared.splitting.FedFrame.{FedFrame}
 use Rattle.meadowtray.specs.declared.splitting.SplitPiece.{SplitPiece}
 
 -- what stays after some places stays after one more
-later : (count : ℕ) (frames places : List FedFrame) → drop count frames ≡ drop count places → drop (count + 1) frames ≡ drop (count + 1) places
+pub later : {A : Type 0} (count : ℕ) (frames places : List A) → drop count frames ≡ drop count places → drop (count + 1) frames ≡ drop (count + 1) places
 later count frames places same = sym (drop-drop 1 count frames) ∙ ap (drop 1) same ∙ drop-drop 1 count places
 
 -- one frame more

@@ -15,6 +15,7 @@ pub mod Headers
 pub mod HeldEnds
 pub mod Hearing
 pub mod Lending
+pub mod LentBatches
 pub mod LentEvents
 pub mod Messages
 pub mod Methods

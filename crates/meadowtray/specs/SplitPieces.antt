@@ -7,7 +7,7 @@ use Rattle.amqp_frame.specs.Stream.{Stream}
 use Rattle.amqp_frame.specs.declared.faults.FrameFault.{FrameFault}
 use Rattle.amqp_frame.specs.declared.splitting.FedRef.{FedRef}
 use Rattle.amqp_handle.specs.declared.held.Held.{Held}
-use Rattle.amqp_handle.specs.declared.held.Held.TheVariants.{Splitter}
+use Rattle.amqp_handle.specs.declared.held.Held.TheVariants.{Splitter, Content}
 use Rattle.meadowtray.specs.Splitters.{Answers, answer_of, frame_fault, frame_there}
 use Rattle.meadowtray.specs.declared.splitting.FedFrame.{FedFrame}
 use Rattle.meadowtray.specs.declared.splitting.SplitPiece.{SplitPiece}
@@ -72,6 +72,9 @@ pub record IsCut (old : Stream) (places : List FedFrame) (status : ℕ) (out : S
 -- the splitter of an open handle splits a piece; any other handle is refused
 abbrev pub SplitsHandle : Option Held → List ℕ → List FedFrame → ℕ → SplitPiece → List FedFrame → Option Held → Type 0
 SplitsHandle None piece places status out frames new = (status ≡ 1) × (frames ≡ places) × (new ≡ None)
+SplitsHandle (Some (Content c)) piece places status out frames new =
+    (status ≡ 3) × (frames ≡ places) × (new ≡ Some (Content c))
 SplitsHandle (Some (Splitter s)) piece places status out frames None = ⊥
+SplitsHandle (Some (Splitter s)) piece places status out frames (Some (Content c)) = ⊥
 SplitsHandle (Some (Splitter s)) piece places status out frames (Some (Splitter now)) =
     IsCut s places status out frames now ⊎ SplitsPiece s piece places status out frames now

@@ -13,7 +13,7 @@ use Rattle.amqp_frame.specs.declared.frames.FrameKind.TheVariants.{Method, Heade
 use Rattle.amqp_frame.specs.declared.frames.FrameRef.{FrameRef}
 use Rattle.amqp_frame.specs.declared.splitting.FedRef.{FedRef}
 use Rattle.amqp_handle.specs.declared.held.Held.{Held}
-use Rattle.amqp_handle.specs.declared.held.Held.TheVariants.{Splitter}
+use Rattle.amqp_handle.specs.declared.held.Held.TheVariants.{Splitter, Content}
 use Rattle.meadowtray.specs.declared.splitting.FedFrame.{FedFrame}
 
 -- the fault of a status above 100
@@ -55,16 +55,19 @@ pub record Answers (old : Stream) (piece : List ℕ) (answer : Result FedRef Fra
 abbrev pub AnswersOf : Option Held → List ℕ → Result FedRef FrameFault → Type 0
 AnswersOf None piece answer = ⊥
 AnswersOf (Some (Splitter s)) piece answer = Answers s piece answer
+AnswersOf (Some (Content c)) piece answer = ⊥
 
 -- an open splitter is fed; any other handle is refused
 abbrev pub FeedsSplitter : Option Held → List ℕ → ℕ → FedFrame → Type 0
 FeedsSplitter None piece status out = status ≡ 1
 FeedsSplitter (Some (Splitter s)) piece status out = Answers s piece (answer_of status out)
+FeedsSplitter (Some (Content c)) piece status out = status ≡ 3
 
 -- the value of an open splitter meets P; any other handle is refused and stays
 abbrev pub OfSplitter : Option Held → (Stream → Type 0) → (status : ℕ) → Type 0
 OfSplitter None P status = status ≡ 1
 OfSplitter (Some (Splitter s)) P status = P s
+OfSplitter (Some (Content c)) P status = status ≡ 3
 
 -- the limit is set: between two frames, and with room for one
 abbrev LimitIsSet : Stream → (limit status : ℕ) → (new : Option Held) → Type 0
@@ -80,6 +83,7 @@ LimitStays s limit status new =
 abbrev pub SetsLimit : Option Held → ℕ → ℕ → Option Held → Type 0
 SetsLimit None limit status new = (status ≡ 1) × (new ≡ None)
 SetsLimit (Some (Splitter s)) limit status new = LimitIsSet s limit status new ⊎ LimitStays s limit status new
+SetsLimit (Some (Content c)) limit status new = (status ≡ 3) × (new ≡ Some (Content c))
 
 -- a splitter as it begins
 abbrev new_stream : ℕ → Stream

@@ -1,8 +1,8 @@
 //! A splitter behind a handle.
-ghost use Rattle.std.specs.Prelude.{◌≡◌, ◌<◌, [], length, Some};
+ghost use Rattle.std.specs.Prelude.{◌≡◌, ◌<◌, true, false, [], length, Some, is_some};
 ghost use Rattle.std.specs.Borrow.{sem};
 ghost use Rattle.amqp_handle.specs.declared.held.Held.TheVariants as held;
-ghost use Rattle.meadowtray.specs.Lending.{FollowsSplitter, IsSplitter, LeavesSlot};
+ghost use Rattle.meadowtray.specs.Lending.{FollowsSplitter, HoldsContent, IsSplitter, LeavesSlot};
 ghost use Rattle.meadowtray.specs.SplitPieces.{SplitsHandle, SplitsPiece};
 ghost use Rattle.meadowtray.specs.Splitters.{answer_of, AnswersOf, FeedsSplitter, OfSplitter, OpensSplitter, SetsLimit, frame_fault, frame_there};
 
@@ -95,6 +95,21 @@ fn splitter<'a>(slot: &'a mut Slot) -> &'a mut Splitter
 {
     match slot.held() {
         Held::Splitter(splitter) => splitter,
+        Held::Content(_) => unreachable!(),
+    }
+}
+
+/// Whether an open handle holds a splitter.
+#[inline(always)]
+fn holds_splitter(slot: &mut Slot) -> bool
+    requires { is_some slot.old.value ≡ true }
+    ensures splitter { result ≡ true → IsSplitter slot.old.value }
+    ensures other { result ≡ false → HoldsContent slot.old.value }
+    ensures same { slot.new.value ≡ slot.old.value }
+{
+    match slot.held() {
+        Held::Splitter(_) => true,
+        Held::Content(_) => false,
     }
 }
 
@@ -118,6 +133,9 @@ pub extern "C" fn proved_splitter_feed<'a>(
 {
     if !slot.is_open() {
         return HandleFault::NotOpen.number();
+    }
+    if !holds_splitter(slot) {
+        return HandleFault::OtherKind.number();
     }
     told(fed(slot, piece), out)
 }
@@ -204,6 +222,7 @@ pub extern "C" fn proved_splitter_split<'a>(
             }
             split(splitter, piece, frames, out)
         }
+        Held::Content(_) => HandleFault::OtherKind.number(),
     }
 }
 
@@ -221,6 +240,7 @@ pub extern "C" fn proved_splitter_pending(slot: &mut Slot, out: &mut usize) -> u
             *out = splitter.pending();
             0
         }
+        Held::Content(_) => HandleFault::OtherKind.number(),
     }
 }
 
@@ -240,5 +260,6 @@ pub extern "C" fn proved_splitter_set_limit(slot: &mut Slot, limit: u32) -> u32
             splitter.set_limit(limit);
             0
         }
+        Held::Content(_) => HandleFault::OtherKind.number(),
     }
 }

@@ -26,6 +26,7 @@ pub struct FedEnd {
 pub(crate) fn tell_fault(fault: CoreFault, out: &mut FedEnd) -> u32
     ensures status { result ≡ core_status fault }
     ensures code { TellsCode fault out.new.code }
+    ensures taken { out.new.taken ≡ out.old.taken }
 {
     match fault {
         CoreFault::Peer(code) => {

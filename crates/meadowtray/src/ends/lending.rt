@@ -14,17 +14,17 @@ use amqp_handle::{EndSlot, HandleFault, HeldEnd, Kept};
 
 /// The numbers of the events that a lending end alone tells: a method that begins a content, the content's header, and
 /// a part of its body.
-const BEGINS: u8 = 15;
+pub(crate) const BEGINS: u8 = 15;
 
-const HEADS: u8 = 16;
+pub(crate) const HEADS: u8 = 16;
 
-const PART: u8 = 17;
+pub(crate) const PART: u8 = 17;
 
 /// A lending end that took octets of a piece, and what came of them.
 #[derive(Clone, Copy)]
-struct Lent<'a, R: Role> {
-    end: &'a StreamEnd<R>,
-    step: Step<'a>,
+pub(crate) struct Lent<'a, R: Role> {
+    pub(crate) end: &'a StreamEnd<R>,
+    pub(crate) step: Step<'a>,
 }
 
 #[inline(always)]
@@ -53,7 +53,7 @@ fn on_channel<'a>(kind: u8, channel: u16, out: &mut SeenEvent<'a>)
 
 /// Shows an event that lends. What an event of its kind hasn't stays as it is.
 #[inline(always)]
-fn show<'a>(event: EventRef<'a>, out: &mut SeenEvent<'a>)
+pub(crate) fn show<'a>(event: EventRef<'a>, out: &mut SeenEvent<'a>)
     ensures { TellsEvent (event_ref_view event.entry) out.new }
 {
     match event {

@@ -5,6 +5,7 @@
 mod answers;
 mod any_end;
 mod asking;
+mod batching;
 mod blaming;
 mod closing;
 mod controlling;
