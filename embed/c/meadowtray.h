@@ -45,6 +45,7 @@ enum {
 	MT_NOT_THERE = 8, /* a table has no pair with the name that is asked for */
 	MT_MISFIT = 9,    /* a value isn't one for its place, or there is one too few or too many */
 	MT_PAST_OUTPUT = 10, /* more octets than the output has */
+	MT_WAITS = 11, /* octets of the output, or of a body that was begun, are to be written first */
 
 	/* a stream that isn't one of frames; each later feed answers MT_FRAME_FAILED */
 	MT_FRAME_UNKNOWN_TYPE = 101,
@@ -605,6 +606,52 @@ typedef struct mt_message {
 /* Sends a message on a channel; a content is cut to the agreed frame size. MT_MISFIT where there is a content and none
  * follows the method, or where the header says another size than the body's. */
 uint32_t mt_end_send(mt_end *end, uint16_t channel, const mt_message *message);
+
+/* A content whose body comes part by part, so that a body of any length goes out through a small buffer. A handle is
+ * opened once, and serves one content after the other. */
+typedef struct mt_content {
+	void *at;
+	bool open;
+} mt_content;
+
+#define MT_CONTENT_INIT                                                                                              \
+	{                                                                                                            \
+		NULL, false                                                                                          \
+	}
+
+uint32_t mt_content_open(mt_content *content);
+
+/* Begins a content through an end that lends (MT_OTHER_KIND): by the payloads of its method and of its content header,
+ * whose `body_size` says how long the body will be. `octets` are the frames of both; those of the body come by
+ * mt_content_write, as its octets come:
+ *
+ *     status = mt_end_begin_content(&end, &content, channel, method, header, &octets);
+ *     while (status == MT_OK && put(octets) && mt_content_left(&content, &left) == MT_OK && left > 0)
+ *             status = mt_content_write(&content, part, next_part(part, left), &octets);
+ *
+ * All frames of the content count as put and as written, so the program writes them to the last octet before anything
+ * else that the end puts; where the body or the stream stops half-way, the connection is lost. MT_WAITS where octets of
+ * the end's output are to be written first, or octets of the content that the handle began before. MT_MISFIT where no
+ * content follows the method. With any status but MT_OK the end is as it was, and no content is begun.
+ *
+ * The octets are lent by the content until the next call with it. The handle and the end may be closed in any order. */
+uint32_t mt_end_begin_content(mt_end *end, mt_content *content, uint16_t channel, mt_octets method, mt_octets header,
+			      mt_octets *octets);
+
+/* Frames the next octets of the body: `octets` are to be written, with what stands before, between and after them.
+ * MT_MISFIT where they are more than are left, MT_NOT_THERE where no content was begun; nothing changes then. After
+ * MT_OUT_OF_MEMORY the same part may be tried again. */
+uint32_t mt_content_write(mt_content *content, const uint8_t *part, size_t length, mt_octets *octets);
+
+/* How many octets of the body are still to come. Once it is 0, all frames were given. */
+uint32_t mt_content_left(mt_content *content, uint64_t *left);
+
+/* Adds to a count how many octets are still to be given, those around the parts of the body with them: the greatest
+ * number of 64 bits where the count would pass that. */
+uint32_t mt_content_add_to(mt_content *content, uint64_t *count);
+
+/* Frees what the handle has. MT_NOT_OPEN where it isn't open, as on a second close. */
+uint32_t mt_content_close(mt_content *content);
 
 /* Asks the other end to send contents on a channel, or no more of them. */
 uint32_t mt_end_flow(mt_end *end, uint16_t channel, bool active);

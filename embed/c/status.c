@@ -26,6 +26,8 @@ const char *mt_status_text(uint32_t status)
 		return "a value that doesn't fit its place";
 	case MT_PAST_OUTPUT:
 		return "more octets than the output has";
+	case MT_WAITS:
+		return "octets wait to be written";
 	case MT_FRAME_UNKNOWN_TYPE:
 		return "unknown frame type";
 	case MT_FRAME_TOO_LARGE:

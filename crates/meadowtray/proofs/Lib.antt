@@ -1,5 +1,6 @@
 pub mod Begun
 pub mod Counting
+pub mod HeldContents
 pub mod KeptEnds
 pub mod LentHeaders
 pub mod LentPlaces

@@ -1,7 +1,9 @@
 pub mod AnyEnds
+pub mod BegunContents
 pub mod Blaming
 pub mod Closing
 pub mod CodecStatuses
+pub mod Contents
 pub mod Decisions
 pub mod EndAnswers
 pub mod EndAsks

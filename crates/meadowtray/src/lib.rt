@@ -6,6 +6,7 @@
 #![tactic(auto)]
 
 mod codec;
+mod contents;
 mod ends;
 mod handles;
 mod splitting;

@@ -258,7 +258,7 @@ impl fmt::Display for EndFault {
 
 impl std::error::Error for EndFault {}
 
-fn given(octets: &[u8]) -> sys::Octets {
+pub(crate) fn given(octets: &[u8]) -> sys::Octets {
     sys::Octets {
         at: octets.as_ptr(),
         length: octets.len(),
@@ -302,6 +302,10 @@ impl End {
         End {
             handle: Handle(sys::Handle::CLOSED),
         }
+    }
+
+    pub(crate) fn handle(&mut self) -> &mut sys::Handle {
+        &mut self.handle.0
     }
 
     /// Takes octets up to the end of the next frame, or of the protocol header at a server that awaits it. Where the

@@ -6,6 +6,7 @@
 #![warn(missing_debug_implementations)]
 
 mod blame;
+mod content;
 mod end;
 mod fault;
 mod header;
@@ -16,6 +17,7 @@ pub mod sys;
 mod table;
 
 pub use blame::{Blame, FrameBlamed, Rule};
+pub use content::Content;
 pub use end::{
     Agreed, Cause, ChannelState, Client, ClientSettings, End, EndFault, Event, Limits, Message, Phase, Reason, Server,
     ServerSettings, Taken,

@@ -8,6 +8,8 @@ use std::fmt;
 pub struct Status(u32);
 
 impl Status {
+    /// An end of another kind: one that gathers, where one that lends is wanted.
+    pub const OTHER_KIND: Status = Status(3);
     pub const OUT_OF_MEMORY: Status = Status(4);
     pub const LIMIT: Status = Status(5);
     pub const FRAME_UNKNOWN_TYPE: Status = Status(101);
@@ -33,6 +35,8 @@ impl Status {
 
     /// More octets than the output has.
     pub const PAST_OUTPUT: Status = Status(10);
+    /// Octets of the output, or of a body that was begun, are to be written first.
+    pub const WAITS: Status = Status(11);
     pub const END_PEER: Status = Status(401);
     pub const END_FATAL: Status = Status(402);
     pub const END_OUT_OF_MEMORY: Status = Status(403);

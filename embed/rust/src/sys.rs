@@ -334,6 +334,19 @@ extern "C" {
         taken: *mut usize,
         code: *mut u16,
     ) -> u32;
+    pub fn mt_content_open(content: *mut Handle) -> u32;
+    pub fn mt_content_close(content: *mut Handle) -> u32;
+    pub fn mt_content_left(content: *mut Handle, left: *mut u64) -> u32;
+    pub fn mt_content_add_to(content: *mut Handle, count: *mut u64) -> u32;
+    pub fn mt_content_write(content: *mut Handle, part: *const u8, length: usize, octets: *mut Octets) -> u32;
+    pub fn mt_end_begin_content(
+        end: *mut Handle,
+        content: *mut Handle,
+        channel: u16,
+        method: Octets,
+        header: Octets,
+        octets: *mut Octets,
+    ) -> u32;
     pub fn mt_end_output(end: *mut Handle, output: *mut Octets) -> u32;
     pub fn mt_end_wrote(end: *mut Handle, length: usize) -> u32;
     pub fn mt_end_open_channel(end: *mut Handle, channel: *mut u16) -> u32;

@@ -40,7 +40,7 @@ fn nothing_seen<'a>(none: &'a [u8]) -> SeenEvent<'a> {
     }
 }
 
-/// Shows an event in its place.
+/// Shows an event in its place. The kinds that come most often write all of it at once.
 #[inline(always)]
 fn show_in<'a>(event: EventRef<'a>, none: &'a [u8], taken: usize, place: &mut EventPlace<'a>)
     ensures { TellsEvent (event_ref_view event.entry) place.new.seen × (place.new.taken ≡ taken) }
@@ -48,16 +48,38 @@ fn show_in<'a>(event: EventRef<'a>, none: &'a [u8], taken: usize, place: &mut Ev
     place.taken = taken;
     match event {
         EventRef::Begins(channel, method) => {
-            place.seen = SeenEvent { method: method.payload(), channel, kind: BEGINS, ..nothing_seen(none) };
+            place.seen = SeenEvent {
+                method: method.payload(),
+                channel,
+                kind: BEGINS,
+                ..nothing_seen(none)
+            };
         }
         EventRef::Heads(channel, header, whole) => {
-            place.seen = SeenEvent { header: header.payload(), channel, kind: HEADS, holds: whole, ..nothing_seen(none) };
+            place.seen = SeenEvent {
+                header: header.payload(),
+                channel,
+                kind: HEADS,
+                holds: whole,
+                ..nothing_seen(none)
+            };
         }
         EventRef::Part(channel, octets, whole) => {
-            place.seen = SeenEvent { body: octets, channel, kind: PART, holds: whole, ..nothing_seen(none) };
+            place.seen = SeenEvent {
+                body: octets,
+                channel,
+                kind: PART,
+                holds: whole,
+                ..nothing_seen(none)
+            };
         }
         EventRef::Method(channel, method) => {
-            place.seen = SeenEvent { method: method.payload(), channel, kind: 3, ..nothing_seen(none) };
+            place.seen = SeenEvent {
+                method: method.payload(),
+                channel,
+                kind: 3,
+                ..nothing_seen(none)
+            };
         }
         other => {
             place.seen = nothing_seen(none);
@@ -171,13 +193,7 @@ fn tell_rest<'a, R: Role>(
     match answer {
         Ok(None) => 0,
         Ok(Some(lent)) => {
-            show_last(
-                lent.end.event(lent.step),
-                none,
-                fed.taken,
-                places,
-                count,
-            );
+            show_last(lent.end.event(lent.step), none, fed.taken, places, count);
             0
         }
         Err(fault) => tell_fault(fault, fed),

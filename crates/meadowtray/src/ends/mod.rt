@@ -6,6 +6,7 @@ mod answers;
 mod any_end;
 mod asking;
 mod batching;
+mod beginning;
 mod blaming;
 mod closing;
 mod controlling;

@@ -16,7 +16,7 @@ loop-shown-preserved g c =
     let less : length left ≤ all = omega (arith, length-drop step.octets rest, inv.0) in
     let taken_is : c.show_in.new.place.taken + length left ≡ all = omega (arith, c.show_in.ensures.1 ∙ ap (λ n. all - length n) (take_rest rest step.octets), less) in
     let at = lends_at all c.loop-shown.end rest step c.in-Some.event c.show_in.new.place new c.in-Ok.ensures.lends
-        (c.in-Some.ensures.alone (given_in new) ∙ sym c.in-Some.ensures.event) c.show_in.ensures.0 taken_is in (
+    (c.in-Some.ensures.alone (given_in new) ∙ sym c.in-Some.ensures.event) c.show_in.ensures.0 taken_is in (
       rw (take_rest rest step.octets) less,
       rw (take_rest rest step.octets) (one_filled all c.args.end.now c.args.piece.now c.args.places.now c.loop-shown.places c.loop-shown.shown c.loop-shown.end rest
           c.show_in.new.place new left inv.1 c.loop-shown-test.true at),
