@@ -1,7 +1,6 @@
 -- Events that an end tells one after the other, each in its place.
-use Rattle.std.proofs.Common.{◌≡◌, ℕ, ◌+◌, ◌<◌, ◌≤◌, List, [], ◌∷◌, ◌++◌, length, take, drop, slice_set, Option, Some, None, Result, Ok, Err, refl, sym, subst, ap, ◌∙◌, arith}
+use Rattle.std.proofs.Common.{◌≡◌, ℕ, ◌+◌, ◌<◌, ◌≤◌, List, [], ◌∷◌, ◌++◌, length, take, drop, slice_set, Option, Some, None, Result, Ok, Err, refl, subst, ◌∙◌, arith}
 use Rattle.std.proofs.lemmas.List.{drop-set-lt, length-set, take_more_set}
-use Rattle.amqp_frame.specs.Frame.{Frame}
 use Rattle.amqp_core.specs.Stream.EventRefView.{event_ref_view}
 use Rattle.amqp_core.specs.Stream.Lends.{Lends}
 use Rattle.amqp_core.specs.Stream.StepView.{came_lent, step_seen}

@@ -1,7 +1,6 @@
 use Rattle.std.proofs.Common.{Some, None, Ok, Err, refl, subst, ap}
 use Rattle.amqp_core.specs.Stream.View.{given_in}
 use Rattle.meadowtray.specs.LentBatches.{LendsFrames, LendsRest}
-use Rattle.meadowtray.specs.declared.ends.lending.Lent.{Lent}
 use Rattle.meadowtray.proofs.ends.batching.lend_rest.Goals as goal
 
 pub returns-in-Ok-None : goal.returns-in-Ok-None
