@@ -1,4 +1,5 @@
-/* Contents that are begun before their bodies are there, as C programs call them: null pointers are refused here. */
+/* Contents whose bodies come part by part, or are lent where they lie, as C programs call them: null pointers are refused
+ * here, and too few places. */
 #include "meadowtray.h"
 
 /* The room of a handle, whichever it is. */
@@ -18,6 +19,9 @@ uint32_t proved_content_octets(slot *slot, mt_octets *octets);
 uint32_t proved_close(slot *slot);
 uint32_t proved_end_begin_content(slot *end, slot *content, uint16_t channel, const uint8_t *method, size_t method_length,
 				  const uint8_t *header, size_t header_length);
+uint32_t proved_end_lend_content(slot *end, slot *content, uint16_t channel, const uint8_t *method, size_t method_length,
+				 const uint8_t *header, size_t header_length, const uint8_t *body, size_t body_length,
+				 mt_octets *pieces, size_t capacity, size_t *count);
 
 /* No octets, where a pointer is wanted that isn't null. */
 static const uint8_t NOTHING[1];
@@ -61,6 +65,41 @@ uint32_t mt_end_begin_content(mt_end *end, mt_content *content, uint16_t channel
 		    proved_end_begin_content((slot *)end, (slot *)content, channel, method.at, method.length, header.at,
 					     header.length),
 		    octets);
+}
+
+/* What stands around the parts of the body, and each part, where a frame has 8 octets beside its payload. */
+uint32_t mt_end_pieces(mt_end *end, size_t length, size_t *count)
+{
+	mt_agreed agreed;
+	uint32_t status;
+
+	WANTED(end && count);
+	*count = 0;
+	status = mt_end_agreed(end, &agreed);
+	if (status != MT_OK)
+		return status;
+	if (agreed.frame_max <= 8)
+		return MT_ASK_NOT_RUNNING;
+	*count = length == 0 ? 1 : 2 * ((length - 1) / (agreed.frame_max - 8) + 1) + 1;
+	return MT_OK;
+}
+
+uint32_t mt_end_lend_content(mt_end *end, mt_content *content, uint16_t channel, const mt_message *message,
+			     mt_octets *pieces, size_t capacity, size_t *count)
+{
+	mt_octets method, header, body;
+	size_t wanted;
+
+	WANTED(end && content && message && pieces && count);
+	WANTED(are_there(message->method) && are_there(message->header) && are_there(message->body));
+	*count = 0;
+	method = taken_from(message->method);
+	header = taken_from(message->header);
+	body = taken_from(message->body);
+	if (mt_end_pieces(end, body.length, &wanted) == MT_OK && capacity < wanted)
+		return MT_NO_ROOM;
+	return proved_end_lend_content((slot *)end, (slot *)content, channel, method.at, method.length, header.at,
+				       header.length, body.at, body.length, pieces, capacity, count);
 }
 
 uint32_t mt_content_write(mt_content *content, const uint8_t *part, size_t length, mt_octets *octets)

@@ -316,11 +316,20 @@ uint32_t mt_end_feed(mt_end *end, const uint8_t *piece, size_t length, mt_event 
 {
 	const uint8_t *octets = piece ? piece : NOTHING;
 	fed_end fed = {0, 0, MT_EVENT_NONE};
+	size_t count = 0;
 	uint32_t status;
 
 	WANTED(end && event && (piece || length == 0));
-	*event = NO_EVENT;
-	status = proved_end_feed_lent((slot *)end, octets, length, &fed, seen_of(event));
+	/* A batch with one place is one feed of what has octets, and the shorter way: what it shows is put into its place at
+	 * once. */
+	if (length > 0) {
+		status = proved_end_lend_batch((slot *)end, octets, length, (event_place *)event, 1, &fed, &count);
+		if (count == 0)
+			*event = NO_EVENT;
+	} else {
+		*event = NO_EVENT;
+		status = proved_end_feed_lent((slot *)end, octets, length, &fed, seen_of(event));
+	}
 	if (status == MT_OTHER_KIND)
 		return feed_and_show(end, octets, length, event);
 	event->taken = fed.taken;

@@ -46,6 +46,7 @@ enum {
 	MT_MISFIT = 9,    /* a value isn't one for its place, or there is one too few or too many */
 	MT_PAST_OUTPUT = 10, /* more octets than the output has */
 	MT_WAITS = 11, /* octets of the output, or of a body that was begun, are to be written first */
+	MT_CUT = 12, /* a content was lent, and there was no place for all of its pieces: the connection is lost */
 
 	/* a stream that isn't one of frames; each later feed answers MT_FRAME_FAILED */
 	MT_FRAME_UNKNOWN_TYPE = 101,
@@ -642,6 +643,24 @@ uint32_t mt_end_begin_content(mt_end *end, mt_content *content, uint16_t channel
  * MT_MISFIT where they are more than are left, MT_NOT_THERE where no content was begun; nothing changes then. After
  * MT_OUT_OF_MEMORY the same part may be tried again. */
 uint32_t mt_content_write(mt_content *content, const uint8_t *part, size_t length, mt_octets *octets);
+
+/* Lends the frames of a content, with the body where it lies, for a write that takes several slices (writev): as
+ * mt_end_send sends them, and without the copy. pieces[0] and so on are to be written in their order, all of them before
+ * anything else that the end puts: they count as put and as written. `count` says how many there are.
+ *
+ * It is for an end that lends (MT_OTHER_KIND). MT_WAITS, MT_MISFIT and the refusals are as at mt_end_begin_content, and
+ * MT_MISFIT stands for a header that says another size than the body's, too. MT_NO_ROOM where `capacity` is less than
+ * mt_end_pieces answers. With each of these nothing is lent, and the end is as it was. MT_CUT would say that it was less
+ * than was wanted all the same, and doesn't come.
+ *
+ * The parts of the body are lent by the caller's own, which stays as long; what stands around them by the content, until
+ * the next call with it. */
+uint32_t mt_end_lend_content(mt_end *end, mt_content *content, uint16_t channel, const mt_message *message,
+			     mt_octets *pieces, size_t capacity, size_t *count);
+
+/* How many pieces a body of so many octets wants: two for each frame of it, and one. MT_ASK_NOT_RUNNING before the frame
+ * size is agreed. */
+uint32_t mt_end_pieces(mt_end *end, size_t length, size_t *count);
 
 /* How many octets of the body are still to come. Once it is 0, all frames were given. */
 uint32_t mt_content_left(mt_content *content, uint64_t *left);

@@ -28,6 +28,8 @@ const char *mt_status_text(uint32_t status)
 		return "more octets than the output has";
 	case MT_WAITS:
 		return "octets wait to be written";
+	case MT_CUT:
+		return "no place for all pieces";
 	case MT_FRAME_UNKNOWN_TYPE:
 		return "unknown frame type";
 	case MT_FRAME_TOO_LARGE:

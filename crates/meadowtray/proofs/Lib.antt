@@ -4,6 +4,7 @@ pub mod HeldContents
 pub mod KeptEnds
 pub mod LentHeaders
 pub mod LentPlaces
+pub mod PlacedPieces
 pub mod Sent
 pub mod SplitFrames
 pub mod Unwritten

@@ -18,6 +18,7 @@ pub mod HeldEnds
 pub mod Hearing
 pub mod Lending
 pub mod LentBatches
+pub mod LentContents
 pub mod LentEvents
 pub mod Messages
 pub mod Methods

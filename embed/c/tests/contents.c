@@ -1,5 +1,5 @@
-/* Contents whose bodies come part by part, through their C calls: what goes out is what one send puts, however the body
- * is cut; the refusals, and memory that runs out. */
+/* Contents whose bodies come part by part, or are lent where they lie, through their C calls: what goes out is what one
+ * send puts, however the body is cut; the refusals, and memory that runs out. */
 #include "check.h"
 #include "meadowtray.h"
 
@@ -133,6 +133,38 @@ static void send_in_parts(mt_content *content, size_t length, size_t part)
 	CHECK(mt_content_write(content, body, 1, &octets) == MT_MISFIT);
 }
 
+/* A body of so many octets in pieces: joined, they are what a send of it puts, and the parts of the body lie where it
+ * lies. */
+static void send_in_pieces(mt_content *content, size_t length)
+{
+	mt_message message = publish(length);
+	mt_octets output, pieces[32], waits;
+	uint64_t frames, before, after;
+	size_t count, wanted, at = 0, came = 0, whole = 0, inside = 0;
+
+	CHECK(mt_end_send(&twin, 1, &message) == MT_OK);
+	CHECK(mt_end_output(&twin, &output) == MT_OK);
+	CHECK(mt_end_pieces(&client, length, &wanted) == MT_OK && wanted <= 32);
+	CHECK(mt_end_counters(&client, &frames, &before) == MT_OK);
+	CHECK(mt_end_lend_content(&client, content, 1, &message, pieces, wanted - 1, &count) == MT_NO_ROOM && count == 0);
+	CHECK(mt_end_counters(&client, &frames, &after) == MT_OK && after == before);
+	CHECK(mt_end_lend_content(&client, content, 1, &message, pieces, wanted, &count) == MT_OK && count == wanted);
+	CHECK(mt_end_counters(&client, &frames, &after) == MT_OK && after - before == output.length);
+	CHECK(mt_end_output(&client, &waits) == MT_OK && waits.length == 0);
+	for (size_t i = 0; i < count; ++i) {
+		CHECK(pieces[i].length > 0 && pieces[i].length <= output.length - at);
+		CHECK(memcmp(pieces[i].at, output.at + at, pieces[i].length) == 0);
+		if (i % 2 == 1) {
+			CHECK(pieces[i].at == body + inside);
+			inside += pieces[i].length;
+		}
+		at += pieces[i].length;
+		came += take(pieces[i], &whole);
+	}
+	CHECK(at == output.length && inside == length && came == length && whole == 1);
+	CHECK(mt_end_wrote(&twin, output.length) == MT_OK);
+}
+
 static void refuse(mt_content *content)
 {
 	mt_message message = publish(10);
@@ -144,6 +176,8 @@ static void refuse(mt_content *content)
 	mt_frame frame;
 	mt_end gathers = MT_END_INIT;
 	mt_client_settings settings;
+	mt_octets pieces[8];
+	size_t placed;
 	uint64_t count = 5;
 	uint8_t room[64];
 
@@ -159,13 +193,22 @@ static void refuse(mt_content *content)
 	mt_client_defaults(&settings);
 	CHECK(mt_end_open_client(&gathers, &settings) == MT_OK);
 	CHECK(mt_end_begin_content(&gathers, content, 1, message.method, message.header, &octets) == MT_OTHER_KIND);
+	CHECK(mt_end_lend_content(&gathers, content, 1, &message, pieces, 8, &placed) == MT_OTHER_KIND && placed == 0);
+	CHECK(mt_end_pieces(&gathers, 10, &placed) == MT_ASK_NOT_RUNNING && placed == 0);
 	CHECK(mt_end_close(&gathers) == MT_OK);
 
 	/* what waits in the output goes first */
 	CHECK(mt_end_beat(&client) == MT_OK);
 	CHECK(mt_end_begin_content(&client, content, 1, message.method, message.header, &octets) == MT_WAITS);
 	CHECK(octets.length == 0);
+	CHECK(mt_end_lend_content(&client, content, 1, &message, pieces, 8, &placed) == MT_WAITS && placed == 0);
 	settle(&client, &server);
+	CHECK(mt_end_lend_content(&client, content, 2, &message, pieces, 8, &placed) == MT_ASK_NOT_OPEN && placed == 0);
+	CHECK(mt_end_lend_content(&client, &closed, 1, &message, pieces, 8, &placed) == MT_NOT_OPEN);
+	CHECK(mt_end_lend_content(&client, (mt_content *)&client, 1, &message, NULL, 8, &placed) == MT_NULL);
+	message.body.length = 9;
+	CHECK(mt_end_lend_content(&client, content, 1, &message, pieces, 8, &placed) == MT_MISFIT && placed == 0);
+	message.body.length = 10;
 
 	/* a handle of another kind, and one that isn't open */
 	CHECK(mt_splitter_open(&splitter, 4096) == MT_OK);
@@ -285,6 +328,8 @@ int main(void)
 	for (size_t i = 0; i < sizeof lengths / sizeof lengths[0]; ++i)
 		for (size_t j = 0; j < sizeof parts / sizeof parts[0]; ++j)
 			send_in_parts(&content, lengths[i], parts[j]);
+	for (size_t i = 0; i < sizeof lengths / sizeof lengths[0]; ++i)
+		send_in_pieces(&content, lengths[i]);
 	refuse(&content);
 	send_in_parts(&content, 20000, 3);
 	CHECK(mt_content_close(&content) == MT_OK && mt_content_close(&content) == MT_NOT_OPEN);

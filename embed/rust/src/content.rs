@@ -1,8 +1,9 @@
-//! Contents whose bodies come part by part.
-use crate::end::{given, End};
+//! Contents whose bodies come part by part, or are lent where they lie.
+use crate::end::{given, End, Message};
 use crate::status::Status;
 use crate::sys;
 use crate::table::octets;
+use std::io::IoSlice;
 
 /// A content whose body comes part by part, so that a body of any length goes out through a small buffer. It serves one
 /// content after the other: [`End::begin_content`] begins each.
@@ -99,5 +100,42 @@ impl End {
             ))?;
             Ok(octets(lent.at, lent.length))
         }
+    }
+
+    /// Lends the frames of a content through an end that lends, with the body where it lies, for a write that takes
+    /// several slices: as [`End::send`] sends them, and without the copy. They count as put and as written, so the program
+    /// writes all of them before anything else that the end puts.
+    ///
+    /// [`Status::WAITS`] is as at [`End::begin_content`]; [`Status::MISFIT`] where the header says another size than the
+    /// body's. Refused, nothing is lent.
+    pub fn lend_content<'a>(
+        &mut self,
+        content: &'a mut Content,
+        channel: u16,
+        message: &Message<'a>,
+    ) -> Result<Vec<IoSlice<'a>>, Status> {
+        let lent = sys::Message {
+            method: given(message.method),
+            header: given(message.header),
+            body: given(message.body),
+        };
+        let (mut wanted, mut count) = (0, 0);
+        // SAFETY: the handle is open.
+        Status::check(unsafe { sys::mt_end_pieces(self.handle(), message.body.len(), &mut wanted) })?;
+        let mut pieces = vec![sys::Octets::NONE; wanted];
+        // SAFETY: there are so many places, and the message's octets are lent.
+        Status::check(unsafe {
+            sys::mt_end_lend_content(
+                self.handle(),
+                &mut content.handle,
+                channel,
+                &lent,
+                pieces.as_mut_ptr(),
+                wanted,
+                &mut count,
+            )
+        })?;
+        // SAFETY: the parts are those of the body, and the content lends what stands around them until it is used again.
+        Ok(pieces[..count].iter().map(|piece| IoSlice::new(unsafe { octets(piece.at, piece.length) })).collect())
     }
 }

@@ -339,6 +339,16 @@ extern "C" {
     pub fn mt_content_left(content: *mut Handle, left: *mut u64) -> u32;
     pub fn mt_content_add_to(content: *mut Handle, count: *mut u64) -> u32;
     pub fn mt_content_write(content: *mut Handle, part: *const u8, length: usize, octets: *mut Octets) -> u32;
+    pub fn mt_end_pieces(end: *mut Handle, length: usize, count: *mut usize) -> u32;
+    pub fn mt_end_lend_content(
+        end: *mut Handle,
+        content: *mut Handle,
+        channel: u16,
+        message: *const Message,
+        pieces: *mut Octets,
+        capacity: usize,
+        count: *mut usize,
+    ) -> u32;
     pub fn mt_end_begin_content(
         end: *mut Handle,
         content: *mut Handle,

@@ -1,4 +1,4 @@
-//! Contents whose bodies come part by part: what goes out is what one send puts.
+//! Contents whose bodies come part by part, or are lent: what goes out is what one send puts.
 use meadowtray::{
     write_header, write_method, Client, ClientSettings, Content, End, Event, Field, Kind, Limits, Message, Server,
     ServerSettings, Status,
@@ -115,4 +115,24 @@ fn an_end_that_gathers_begins_none() {
     let (method, header) = payloads(3);
     let mut content = Content::new().unwrap();
     assert_eq!(client.begin_content(&mut content, 1, &method, &header), Err(Status::OTHER_KIND));
+}
+
+#[test]
+fn pieces_are_what_one_send_puts() {
+    let body: Vec<u8> = (0..10_000u32).map(|octet| octet as u8).collect();
+    for length in [0, 1, 4088, 10_000] {
+        let (method, header) = payloads(length);
+        let (mut client, _server) = connected();
+        let (mut twin, _other) = connected();
+        let message = Message { method: &method, header: &header, body: &body[..length] };
+        twin.send(1, &message).unwrap();
+        let mut content = Content::new().unwrap();
+        let pieces = client.lend_content(&mut content, 1, &message).unwrap();
+        assert_eq!(pieces.len(), 2 * length.div_ceil(4088) + 1);
+        let joined: Vec<u8> = pieces.iter().flat_map(|piece| piece.iter().copied()).collect();
+        assert_eq!(joined, twin.output());
+        assert!(client.output().is_empty());
+        let other = Message { body: &body[..length + 1 - 2 * (length / 10_000)], ..message };
+        assert_eq!(client.lend_content(&mut content, 1, &other).err(), Some(Status::MISFIT));
+    }
 }

@@ -15,10 +15,10 @@ use amqp_method::{Header, Method};
 use std::alloc::Global;
 
 /// Octets are to be written before: of the end's output, or of the body that was begun.
-const WAITS: u32 = 11;
+pub(crate) const WAITS: u32 = 11;
 
 /// The status of why nothing is lent.
-fn lend_fault(fault: LendFault) -> u32
+pub(crate) fn lend_fault(fault: LendFault) -> u32
     ensures { result ≡ lend_status fault }
 {
     match fault {

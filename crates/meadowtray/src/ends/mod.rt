@@ -19,3 +19,4 @@ mod numbers;
 mod opening;
 mod output;
 mod sending;
+mod slices;
