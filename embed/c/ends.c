@@ -1,5 +1,5 @@
 /* The ends as C programs call them: null pointers are refused here, what a program gives is brought into the form that
- * the proved functions take, and a batch is fed one event after the other. */
+ * the proved functions take, and a batch of an end that keeps its events is fed one event after the other. */
 #include "meadowtray.h"
 
 /* The room of an end's handle. */
