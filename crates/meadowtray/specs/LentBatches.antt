@@ -86,7 +86,8 @@ step_of (Ok (Some lent)) = Ok (Some lent.step)
 step_of (Err fault) = Err fault
 
 -- the event is lent by this end
-abbrev pub IsLentBy : {R H : Type 0} {G : Ghosts R H} → Result (Option (Lent R H G)) CoreFault → StreamEnd R H G → Type 0
+abbrev pub IsLentBy : {R H : Type 0} {G : Ghosts R H} → Result (Option (Lent R H G)) CoreFault → StreamEnd R H G
+    → Type 0
 IsLentBy (Ok None) new = Unit {0}
 IsLentBy (Ok (Some lent)) new = given_in lent.end.now ≡ given_in new
 IsLentBy (Err fault) new = Unit {0}
@@ -113,7 +114,8 @@ pub record RestAnswer {R H : Type 0} {G : Ghosts R H} (old : StreamEnd R H G) (p
   pub lends : LendsRest old piece places answer taken count now new
 
 -- there is a place for the event of a step
-abbrev pub HasRoom : {R H : Type 0} {G : Ghosts R H} → Result (Option (Lent R H G)) CoreFault → (count room : ℕ) → Type 0
+abbrev pub HasRoom : {R H : Type 0} {G : Ghosts R H} → Result (Option (Lent R H G)) CoreFault → (count room : ℕ)
+    → Type 0
 HasRoom (Ok None) count room = Unit {0}
 HasRoom (Ok (Some lent)) count room = count < room
 HasRoom (Err fault) count room = Unit {0}

@@ -1,7 +1,7 @@
 -- Contents that C has a lending end lend, for writes of several slices. Read before: what it is that such an end lends
 -- one (`LentAsks` of `amqp_core`), and how a content is begun (`BegunContents`).
-use Rattle.std.specs.Prelude.{◌≡◌, ◌≢◌, ◌<◌, ◌++◌, ℕ, List, [], ◌∷◌, length, take, drop, true, false, Option, Some, None}
-use Rattle.std.specs.Prelude.{Result, Ok, Err, ◌⊎◌}
+use Rattle.std.specs.Prelude.{◌≡◌, ◌≢◌, ◌<◌, ◌++◌, ℕ, List, [], ◌∷◌, length, take, drop, true, false, Option}
+use Rattle.std.specs.Prelude.{Some, None, Result, Ok, Err, ◌⊎◌}
 use Rattle.amqp_method.specs.Arguments.{Argument, Call}
 use Rattle.amqp_method.specs.Encoding.{EncodesMethod}
 use Rattle.amqp_method.specs.FirstFault.{FirstFaultOfHeader, FirstFaultOfMethod}
@@ -86,8 +86,8 @@ pub data LendsAfter {R H : Type 0} {G : Ghosts R H} (old : Kept (StreamEnd R H G
   follows : has_content call.kind ≡ true → LendsCall old channel call header_octets body pieces status count now new
       → LendsAfter old channel call header_octets body pieces status count now new
 
--- Octets of the body that was begun with the content are still to come, or the method can't be read, and nothing changes;
--- or it can.
+-- Octets of the body that was begun with the content are still to come, or the method can't be read, and nothing
+-- changes; or it can.
 pub data LendsOne {R H : Type 0} {G : Ghosts R H} (old : Kept (StreamEnd R H G)) (before : Content) (channel : ℕ)
     (method_octets header_octets body : List ℕ) (pieces : List Piece) (status count : ℕ) (now : List Piece)
     (new : Kept (StreamEnd R H G)) : Type 0 where
