@@ -185,6 +185,13 @@ _end_output = _declare("mt_end_output", _HANDLE, ctypes.POINTER(_Octets))
 _end_wrote = _declare("mt_end_wrote", _HANDLE, ctypes.c_size_t)
 _end_open_channel = _declare("mt_end_open_channel", _HANDLE, ctypes.POINTER(_NUMBER))
 _end_send = _declare("mt_end_send", _HANDLE, _NUMBER, ctypes.POINTER(_Message))
+_content_open = _declare("mt_content_open", _HANDLE)
+_content_close = _declare("mt_content_close", _HANDLE)
+_content_left = _declare("mt_content_left", _HANDLE, ctypes.POINTER(ctypes.c_uint64))
+_content_write = _declare("mt_content_write", _HANDLE, *_OCTETS_AT, ctypes.POINTER(_Octets))
+_end_begin_content = _declare(
+    "mt_end_begin_content", _HANDLE, _HANDLE, _NUMBER, _Octets, _Octets, ctypes.POINTER(_Octets)
+)
 _end_flow = _declare("mt_end_flow", _HANDLE, _NUMBER, ctypes.c_bool)
 _end_close_channel = _declare("mt_end_close_channel", _HANDLE, _NUMBER, _NUMBER, _Octets)
 _end_close_connection = _declare("mt_end_close_connection", _HANDLE, _NUMBER, _Octets)
@@ -699,6 +706,15 @@ class _End(_Open):
         message = _Message(*(_Octets(*lent.octets(part)) for part in (method, header, body)))
         _check(_end_send(self._handle, channel, message))
 
+    def begin_content(self, content, channel, method, header):
+        """Begins a content by the payloads of its method and of its header, through an end that lends. The answer is
+        what is to be written first; the frames of the body come by the content's `write`."""
+        lent = _Lent()
+        parts = (_Octets(*lent.octets(part)) for part in (method, header))
+        octets = _Octets()
+        _check(_end_begin_content(self._handle, content._handle, channel, *parts, octets))
+        return _taken(octets)
+
     def flow(self, channel, active):
         """Asks the other end to send contents on a channel, or no more of them."""
         _check(_end_flow(self._handle, channel, active))
@@ -846,6 +862,30 @@ class EndFault(Fault):
     def __init__(self, status, code):
         super().__init__(status)
         self.code = code or None
+
+
+class Content(_Open):
+    """A content whose body comes part by part."""
+
+    _close = _content_close
+
+    def __init__(self):
+        super().__init__()
+        _check(_content_open(self._handle))
+
+    def write(self, part):
+        """Frames the next octets of the body: the answer is to be written."""
+        lent = _Lent()
+        octets = _Octets()
+        _check(_content_write(self._handle, *lent.octets(part), octets))
+        return _taken(octets)
+
+    @property
+    def left(self):
+        """How many octets of the body are still to come."""
+        left = ctypes.c_uint64()
+        _check(_content_left(self._handle, left))
+        return left.value
 
 
 class Client(_End):

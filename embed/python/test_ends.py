@@ -7,6 +7,7 @@ from meadowtray import (
     MT_SHORT_STRING,
     ChannelState,
     Client,
+    Content,
     EndFault,
     EventKind,
     Fault,
@@ -78,6 +79,28 @@ class EndsTest(unittest.TestCase):
                 self.assertEqual(b"".join(part.body for part in parts), body)
                 self.assertEqual([part.whole for part in parts], [False, False, True])
                 self.assertEqual((server.kept, server.gathered_in_all), (0, 0))
+
+    def test_a_body_that_comes_in_parts(self):
+        body = bytes(range(250)) * 40
+        method, header = publish(b"orders"), write_header(len(body))
+        ends = [(Client(lends=True), Server(frame_max=4096, lends=True)) for _ in range(2)]
+        for client, server in ends:
+            settle(client, server)
+            client.open_channel()
+            settle(client, server)
+        (client, server), (twin, _) = ends
+        twin.send(1, method, header, body)
+        with Content() as content:
+            octets = client.begin_content(content, 1, method, header)
+            for start in range(0, len(body), 999):
+                self.assertEqual(content.left, len(body) - start)
+                octets += content.write(body[start : start + 999])
+            self.assertEqual(content.left, 0)
+            with self.assertRaises(Fault):
+                content.write(b"x")
+        self.assertEqual(octets, twin.output)
+        parts = [event for event in server.feed(octets) if event.kind == EventKind.PART]
+        self.assertEqual(b"".join(event.body for event in parts), body)
 
     def test_answers(self):
         client, server = connected()
