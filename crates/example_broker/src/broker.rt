@@ -1,19 +1,19 @@
 //! All that the broker holds, and what it does with what the ends of its connections tell.
 use crate::channel::Channel;
-use crate::connection::Connection;
-use crate::exchanges::Exchange;
-use crate::fault::{Answer, Done, Fault, Result, refused};
+use crate::connection::{Asked, Connection};
+use crate::fault::{Done, Fault, Result, refused};
 use crate::queues::{Place, QueueId, Queues};
-use amqp_core::{AskFault, End, Event, Server};
-use amqp_method::{Kind, Message, reply};
-use amqp_typed::basic::AnyMethod as Basic;
-use amqp_typed::exchange::AnyMethod as Exchanging;
-use amqp_typed::{AnyMethod, queue};
+use amqp_core::{AskFault, Server, StreamEnd};
+use amqp_method::{Kind, Message, MethodRef, reply};
+use amqp_typed::basic::AnyMethodView as Basic;
+use amqp_typed::exchange::AnyMethodView as Exchanging;
+use amqp_typed::queue::AnyMethodView as Queueing;
+use amqp_typed::{AnyMethodView, Typed};
 use amqp_value::ShortStr;
 use example_loop::{Connect, Program};
-use example_store::{Content, Share};
+use example_store::Exchange;
 use mio::net::TcpStream;
-use std::alloc::{AllocError, Global};
+use std::alloc::Global;
 use std::cell::Cell;
 use std::collections::BTreeMap;
 use std::rc::Rc;
@@ -27,6 +27,8 @@ pub struct Broker {
     users: Rc<String>,
     /// How many octets all messages hold.
     held: Rc<Cell<usize>>,
+    /// They hold more than `BOUND`, and since then more than three quarters of it.
+    is_short: bool,
     pub connections: BTreeMap<usize, Connection>,
     pub exchanges: BTreeMap<Vec<u8>, Exchange>,
     pub queues: Queues,
@@ -43,6 +45,7 @@ impl Broker {
             alloc,
             users: Rc::new(alloc, users)?,
             held: Rc::new(alloc, Cell::new(0))?,
+            is_short: false,
             connections: BTreeMap::new(alloc),
             exchanges: BTreeMap::new(alloc),
             queues: BTreeMap::new(alloc),
@@ -55,7 +58,7 @@ impl Broker {
     }
 
     pub fn next_id(&mut self) -> Result<u64> {
-        self.last_id = self.last_id.checked_add(1).ok_or(AllocError)?;
+        self.last_id = self.last_id.checked_add(1).ok_or(Fault::GivenUp)?;
         Ok(self.last_id)
     }
 
@@ -70,8 +73,8 @@ impl Broker {
         Ok(self.connections.get_mut(&id).ok_or(AskFault::NotRunning)?)
     }
 
-    pub fn end(&mut self, at: Place) -> Result<&mut End<Server>> {
-        Ok(&mut self.connection(at.0)?.link.end)
+    pub fn end(&mut self, at: Place) -> Result<&mut StreamEnd<Server>> {
+        Ok(self.connection(at.0)?.end())
     }
 
     pub fn channel(&mut self, at: Place) -> Result<&mut Channel> {
@@ -79,103 +82,117 @@ impl Broker {
     }
 
     /// Does what a connection asks for. What can't be done ends it.
-    fn hear(&mut self, id: usize, mut octets: &[u8]) -> Done {
-        for _ in 0..u64::MAX {
-            let Some(event) = self.connection(id)?.link.hear(&mut octets) else {
+    fn hear(&mut self, id: usize, octets: &[u8]) -> Done {
+        let (mut rest, mut method) = (octets, Vec::new(self.alloc));
+        for _ in 0..octets.len() {
+            let Some((taken, asked)) = self.connection(id)?.hear(rest, &mut method) else {
                 break;
             };
-            if self.handle(id, event).is_err() {
+            rest = &rest[taken..];
+            if self.handle(id, asked, &method).is_err() {
                 self.connection(id)?.link.is_gone = true;
             }
         }
         Ok(())
     }
 
-    fn handle(&mut self, id: usize, event: Event) -> Done {
-        match event {
-            Event::LoginAsked => self.connection(id)?.login()?,
-            Event::OpenAsked => self.connection(id)?.enter()?,
-            Event::Opened(channel) => {
-                let opened = Channel::new(self.alloc)?;
-                self.connection(id)?.channels.insert(channel, opened)?;
+    fn handle(&mut self, id: usize, asked: Asked, method: &[u8]) -> Done {
+        match asked {
+            Asked::Nothing => Ok(()),
+            Asked::Login => self.connection(id)?.login(),
+            Asked::Enter => self.connection(id)?.enter(),
+            Asked::Method(number) => self.tell(Place(id, number), MethodRef::new(method)?),
+            Asked::Content(number) => {
+                let at = Place(id, number);
+                let done = self.publish(at);
+                self.close_if_refused(at, Kind::BasicPublish, done)
             }
-            Event::Told(channel, message) => self.tell(Place(id, channel), message)?,
-            Event::Flow(channel, active) => self.channel(Place(id, channel))?.is_flowing = active,
-            // an end closes a channel of itself where a content is too large
-            Event::ChannelClosed(channel, _) | Event::Discarded(channel) => {
-                self.close_channel(Place(id, channel))?;
-            }
-            // no other asks a server for anything
-            _ => {}
-        }
-        Ok(())
-    }
-
-    /// Does what a method asks for, and answers it if the client wants that, or closes for it.
-    fn tell(&mut self, at: Place, message: Message) -> Done {
-        let kind = message.method().kind();
-        let is_answered = message.method().is_request() || kind.has_content();
-        match self.answer(at, message) {
-            Ok(Some(answer)) if is_answered => Ok(self.end(at)?.send(at.1, &answer)?),
-            Ok(_) => Ok(()),
-            Err(fault) => self.close_for(at, fault, kind),
+            Asked::Close(number) => self.close_channel(Place(id, number)),
         }
     }
 
-    fn answer(&mut self, at: Place, message: Message) -> Answer {
-        let (method, content) = message.into_parts();
-        match AnyMethod::from_method(method) {
-            AnyMethod::Exchange(Exchanging::Declare(declare)) => self.declare_exchange(declare),
-            AnyMethod::Exchange(Exchanging::Delete(delete)) => self.delete_exchange(delete),
-            AnyMethod::Exchange(_) => refused(reply::NOT_IMPLEMENTED, "bound exchanges", None),
-            AnyMethod::Queue(queue::AnyMethod::Declare(declare)) => self.declare_queue(at, declare),
-            AnyMethod::Queue(queue::AnyMethod::Bind(bind)) => self.bind_queue(at, bind),
-            AnyMethod::Queue(queue::AnyMethod::Unbind(unbind)) => self.unbind_queue(at, unbind),
-            AnyMethod::Queue(queue::AnyMethod::Purge(purge)) => self.purge_queue(at, purge),
-            AnyMethod::Queue(queue::AnyMethod::Delete(delete)) => self.delete_queue(at, delete),
-            AnyMethod::Basic(Basic::Publish(publish)) => {
-                let (properties, body) = content.ok_or(AskFault::NotSendable)?;
-                let share = Share::new(properties.header_length(), body.len(), &self.held)?;
-                let content = Content {
-                    publish,
-                    properties,
-                    body,
-                    share,
-                };
-                self.publish(at, content)
+    /// Does what a method asks for, or closes for it.
+    fn tell(&mut self, at: Place, method: MethodRef<'_>) -> Done {
+        let done = match AnyMethodView::from_view(method) {
+            AnyMethodView::Exchange(method) => self.tell_exchange(at, method),
+            AnyMethodView::Queue(method) => self.tell_queue(at, method),
+            AnyMethodView::Basic(method) => self.tell_basic(at, method),
+            AnyMethodView::Confirm(_) => self.select_confirms(at),
+            AnyMethodView::Tx(_) => {
+                refused(self.alloc, reply::NOT_IMPLEMENTED, "transactions", None)
             }
-            AnyMethod::Basic(method) => self.answer_basic(at, method),
-            AnyMethod::Confirm(_) => self.select_confirms(at),
-            AnyMethod::Tx(_) => refused(reply::NOT_IMPLEMENTED, "transactions", None),
             // no client sends any other
-            _ => Ok(None),
+            _ => Ok(()),
+        };
+        self.close_if_refused(at, method.kind(), done)
+    }
+
+    fn tell_exchange(&mut self, at: Place, method: Exchanging<'_>) -> Done {
+        match method {
+            Exchanging::Declare(declare) => self.declare_exchange(at, declare),
+            Exchanging::Delete(delete) => self.delete_exchange(at, delete),
+            _ => refused(self.alloc, reply::NOT_IMPLEMENTED, "bound exchanges", None),
         }
     }
 
-    fn answer_basic(&mut self, at: Place, method: Basic) -> Answer {
+    fn tell_queue(&mut self, at: Place, method: Queueing<'_>) -> Done {
+        match method {
+            Queueing::Declare(declare) => self.declare_queue(at, declare),
+            Queueing::Bind(bind) => self.bind_queue(at, bind),
+            Queueing::Unbind(unbind) => self.unbind_queue(at, unbind),
+            Queueing::Purge(purge) => self.purge_queue(at, purge.queue),
+            Queueing::Delete(delete) => self.delete_queue(at, delete),
+            _ => Ok(()),
+        }
+    }
+
+    fn tell_basic(&mut self, at: Place, method: Basic<'_>) -> Done {
         match method {
             Basic::Qos(qos) => self.set_qos(at, qos),
             Basic::Consume(consume) => self.consume(at, consume),
-            Basic::Cancel(cancel) => self.cancel(at, cancel),
+            Basic::Cancel(cancel) => self.cancel(at, cancel.consumer_tag),
             Basic::Get(get) => self.get(at, get),
             Basic::Ack(ack) => self.settle(at, ack.delivery_tag, ack.multiple, false),
             Basic::Reject(reject) => self.settle(at, reject.delivery_tag, false, reject.requeue),
             Basic::Nack(nack) => self.settle(at, nack.delivery_tag, nack.multiple, nack.requeue),
             Basic::RecoverAsync(recover) => self.recover(at, recover.requeue),
             Basic::Recover(recover) => self.recover(at, recover.requeue),
-            _ => Ok(None),
+            _ => Ok(()),
         }
     }
 
-    /// Closes the channel, or the connection where the error is a hard one.
-    fn close_for(&mut self, at: Place, fault: Fault, kind: Kind) -> Done {
-        let (code, text) = fault.into_close(self.alloc)?;
+    /// Sends a method. One that answers a request isn't sent where the client wants no answer.
+    pub fn send<T: Typed>(&mut self, at: Place, method: T) -> Done {
+        let message = Message::try_plain(method.into_method(self.alloc)?);
+        match message {
+            Ok(message) => self.put(at, &message),
+            Err(_) => Err(Fault::GivenUp),
+        }
+    }
+
+    fn put(&mut self, at: Place, message: &Message) -> Done {
+        let end = self.end(at)?;
+        if message.method().kind().is_reply() && end.reply_due(at.1).is_none() {
+            return Ok(());
+        }
+        Ok(end.send(at.1, message)?)
+    }
+
+    /// Closes the channel for a method that is refused, or the connection where the error is a hard one.
+    fn close_if_refused(&mut self, at: Place, kind: Kind, done: Done) -> Done {
+        match done {
+            Err(Fault::Refused(code, text)) => self.close_for(at, code, &text, kind),
+            done => done,
+        }
+    }
+
+    fn close_for(&mut self, at: Place, code: u16, text: &ShortStr, kind: Kind) -> Done {
         if reply::is_hard(code) {
             self.close_channels(at.0)?;
-            return Ok(self.end(at)?.close_for(code, &text, kind)?);
+            return Ok(self.end(at)?.close_for(code, text, kind)?);
         }
         self.close_channel(at)?;
-        Ok(self.end(at)?.close_channel_for(at.1, code, &text, kind)?)
+        Ok(self.end(at)?.close_channel_for(at.1, code, text, kind)?)
     }
 
     /// A channel is gone: its consumers are, and what was sent on it and not acknowledged goes back.
@@ -212,6 +229,23 @@ impl Broker {
         self.first = sender.map_or(first, |id| id.saturating_add(1));
     }
 
+    /// The first connection whose number is at least this.
+    fn connection_from(&self, id: usize) -> Option<usize> {
+        let first = self.connections.range(id..).next()?;
+        Some(*first.0)
+    }
+
+    /// A connection has its turn.
+    fn serve(&mut self, id: usize, ticks: bool, room: &mut [u8]) -> Done {
+        let is_short = self.is_short;
+        let count = self.connection(id)?.turn(is_short, ticks, room);
+        self.hear(id, &room[..count])?;
+        if self.connection(id)?.link.is_done() {
+            self.remove_connection(id)?;
+        }
+        Ok(())
+    }
+
     /// A connection is gone: its channels and its exclusive queues are.
     fn remove_connection(&mut self, id: usize) -> Done {
         self.close_channels(id)?;
@@ -232,7 +266,8 @@ impl Program for Broker {
     }
 
     fn add(&mut self, _: &impl Connect, number: usize, stream: TcpStream) -> anyhow::Result<()> {
-        let connection = Connection::new(self.alloc, self.users.clone()?, stream)?;
+        let (users, held) = (self.users.clone()?, self.held.clone()?);
+        let connection = Connection::new(self.alloc, users, held, stream)?;
         self.connections.insert(number, connection)?;
         Ok(())
     }
@@ -243,15 +278,14 @@ impl Program for Broker {
         }
     }
 
+    /// What fails in it for want of memory is tried again in the next.
     fn turn(&mut self, _: &impl Print, ticks: bool, room: &mut [u8]) -> anyhow::Result<()> {
-        let is_short = self.held.get() > BOUND;
-        let ids: Vec<usize> = self.connections.keys().copied().collect(self.alloc)?;
-        for id in ids {
-            let count = self.connection(id)?.turn(is_short, ticks, room);
-            self.hear(id, &room[..count])?;
-            if self.connection(id)?.link.is_done() {
-                self.remove_connection(id)?;
-            }
+        let bound = if self.is_short { BOUND / 4 * 3 } else { BOUND };
+        self.is_short = self.held.get() > bound;
+        let mut next = self.connection_from(0);
+        while let Some(id) = next {
+            drop(self.serve(id, ticks, room));
+            next = id.checked_add(1).and_then(|id| self.connection_from(id));
         }
         self.deliver();
         Ok(())

@@ -1,12 +1,18 @@
-//! A channel: its consumers, and the messages that were sent on it and wait to be acknowledged.
+//! A channel: its consumers, the messages that were sent on it and wait to be acknowledged, and the content that is coming.
 ghost use Rattle.std.specs.Prelude.{true, false, OnOk};
 ghost use Rattle.example_broker.specs.Standing.{Awaits};
 
+use crate::connection::Asked;
 use crate::fault::{Done, Result};
 use crate::queues::{QueueId, Queues};
+use amqp_core::EventRef;
+use amqp_method::{HeaderRef, MethodRef};
+use amqp_typed::TypedView;
+use amqp_typed::basic::PublishView;
 use amqp_value::ShortStr;
 use example_store::{Content, Credit};
 use std::alloc::Global;
+use std::cell::Cell;
 use std::collections::BTreeMap;
 use std::rc::Rc;
 
@@ -42,6 +48,8 @@ pub struct Channel {
     pub published: Option<u64>,
     pub last_queue: ShortStr,
     pub is_flowing: bool,
+    /// What has come of the content that the client publishes, until it is whole and taken.
+    pub coming: Option<Content>,
 }
 
 impl Channel {
@@ -56,11 +64,64 @@ impl Channel {
             published: None,
             last_queue: ShortStr::text(alloc, "")?,
             is_flowing: true,
+            coming: None,
         })
     }
 
-    pub fn consumer_with(&self, tag: &ShortStr) -> Option<u64> {
-        let found = self.consumers.iter().find(|pair| pair.1.tag == *tag)?;
+    /// What is said on it, beside a method alone: a frame of a content, or a flow.
+    pub fn hear(
+        &mut self,
+        number: u16,
+        event: EventRef<'_>,
+        unfinished: &Rc<Cell<usize>>,
+        held: &Rc<Cell<usize>>,
+    ) -> Result<Asked> {
+        let is_whole = match event {
+            EventRef::Begins(_, method) => self.begin(method, unfinished)?,
+            EventRef::Heads(_, header, whole) => self.head(header, whole)?,
+            EventRef::Part(_, part, whole) => self.add(part, whole)?,
+            EventRef::Flow(_, active) => {
+                self.is_flowing = active;
+                false
+            }
+            _ => false,
+        };
+        if !is_whole {
+            return Ok(Asked::Nothing);
+        }
+        if let Some(content) = &mut self.coming {
+            content.count_among(held)?;
+        }
+        Ok(Asked::Content(number))
+    }
+
+    fn begin(&mut self, method: MethodRef<'_>, unfinished: &Rc<Cell<usize>>) -> Result<bool> {
+        // no client sends any other
+        if let Some(publish) = PublishView::from_view(method) {
+            self.coming = Some(Content::begin(self.alloc, publish, unfinished)?);
+        }
+        Ok(false)
+    }
+
+    fn head(&mut self, header: HeaderRef<'_>, whole: bool) -> Result<bool> {
+        if let Some(content) = &mut self.coming {
+            content.head(self.alloc, header)?;
+        }
+        Ok(whole)
+    }
+
+    fn add(&mut self, part: &[u8], whole: bool) -> Result<bool> {
+        if let Some(content) = &mut self.coming {
+            content.add(part)?;
+        }
+        Ok(whole)
+    }
+
+    pub fn consumer_with(&self, tag: &[u8]) -> Option<u64> {
+        let found = self
+            .consumers
+            .iter()
+            .find(|pair| pair.1.tag.as_bytes() == tag)?;
         Some(*found.0)
     }
 
@@ -103,12 +164,19 @@ impl Channel {
         let tags: Vec<u64> = tags.take_while(|tag| *tag <= last).collect(self.alloc)?;
         for tag in tags {
             if let Some(delivery) = self.settle(tag)
-                && let Some(queue) = queues.get_mut(&delivery.queue)
                 && requeue
             {
-                queue.messages.put_back(delivery.place, delivery.content)?;
+                put_back(queues, delivery)?;
             }
         }
         Ok(())
     }
+}
+
+/// A message goes back to its queue.
+fn put_back(queues: &mut Queues, delivery: Delivery) -> Done {
+    if let Some(queue) = queues.get_mut(&delivery.queue) {
+        queue.messages.put_back(delivery.place, delivery.content)?;
+    }
+    Ok(())
 }

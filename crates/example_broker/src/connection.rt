@@ -1,19 +1,19 @@
 //! A connection: its login, its channels, and the messages that are sent on it.
-ghost use Rattle.std.specs.Prelude.{◌≤◌, length};
+ghost use Rattle.std.specs.Prelude.{◌≤◌, IfSome, length};
 
 use crate::broker::BOUND;
 use crate::channel::{Channel, Delivery};
 use crate::fault::{Done, Result};
 use crate::queues::Queue;
-use amqp_core::{AskFault, End, Server};
-use amqp_method::{Kind, reply};
-use amqp_typed::basic::{Deliver, GetOk};
+use amqp_core::{AskFault, EventRef, Server, StreamEnd};
+use amqp_method::{Kind, MethodRef, reply};
+use amqp_typed::TypedRef;
 use amqp_typed::connection::{OpenRef, StartOkRef};
-use amqp_typed::{Typed, TypedRef};
 use amqp_value::{ShortStr, Value, read_table};
 use example_loop::{FULL, Link, server_end};
 use mio::net::TcpStream;
 use std::alloc::Global;
+use std::cell::Cell;
 use std::collections::BTreeMap;
 use std::mem::replace;
 use std::rc::Rc;
@@ -22,35 +22,94 @@ use std::rc::Rc;
 const ABILITIES: &str =
     "publisher_confirms basic.nack per_consumer_qos connection.blocked authentication_failure_close";
 
+/// What a connection asks of the broker, once its end can be answered.
+#[derive(Clone, Copy)]
+pub enum Asked {
+    Nothing,
+    Login,
+    Enter,
+    /// By a method on a channel, which is copied.
+    Method(u16),
+    /// By a content that is whole.
+    Content(u16),
+    Close(u16),
+}
+
 #[derive(Drop)]
 pub struct Connection {
     alloc: Global,
     users: Rc<String>,
-    pub link: Link<End<Server>>,
+    pub link: Link<Server>,
     pub channels: BTreeMap<u16, Channel>,
+    /// How many octets the contents have that aren't whole.
+    unfinished: Rc<Cell<usize>>,
+    /// How many octets all messages of the broker hold.
+    held: Rc<Cell<usize>>,
     hears_blocked: bool,
     /// The client published since memory is short, or since its last turn.
-    pub publishes: bool,
+    publishes: bool,
     /// The client isn't read: it publishes, and memory is short.
     is_blocked: bool,
 }
 
 impl Connection {
-    pub fn new(alloc: Global, users: Rc<String>, stream: TcpStream) -> anyhow::Result<Connection> {
+    pub fn new(
+        alloc: Global,
+        users: Rc<String>,
+        held: Rc<Cell<usize>>,
+        stream: TcpStream,
+    ) -> anyhow::Result<Connection> {
+        let unfinished = Rc::new(alloc, Cell::new(0))?;
         let end = server_end(alloc, "example_broker", ABILITIES)?;
         Ok(Connection {
             alloc,
             users,
-            link: Link::new(stream, end),
+            link: Link::new(alloc, stream, end),
             channels: BTreeMap::new(alloc),
+            unfinished,
+            held,
             hears_blocked: false,
             publishes: false,
             is_blocked: false,
         })
     }
 
+    pub fn end(&mut self) -> &mut StreamEnd<Server> {
+        &mut self.link.end.inner
+    }
+
+    /// Takes octets up to the end of a frame, and answers how many, and what the frame asks of the broker. A method is
+    /// copied as it lies. None: no more are taken.
+    pub fn hear(&mut self, octets: &[u8], method: &mut Vec<u8>) -> Option<(usize, Asked)>
+        ensures { IfSome result (λ heard. heard.0 ≤ length octets.now) }
+    {
+        let (taken, heard) = self.link.hear(octets)?;
+        let Some(heard) = heard else {
+            return Some((taken, Asked::Nothing));
+        };
+        let number = heard.number;
+        let (channels, event) = (&mut self.channels, heard.event);
+        let asked = match event {
+            EventRef::LoginAsked => Ok(Asked::Login),
+            EventRef::OpenAsked => Ok(Asked::Enter),
+            EventRef::Opened(_) => open(self.alloc, channels, number),
+            EventRef::Method(_, said) => keep(method, said, number),
+            EventRef::ChannelClosed(..) | EventRef::Discarded(_) => Ok(Asked::Close(number)),
+            _ => match channels.get_mut(&number) {
+                Some(channel) => channel.hear(number, event, &self.unfinished, &self.held),
+                None => Ok(Asked::Nothing),
+            },
+        };
+        let Ok(asked) = asked else {
+            self.link.is_gone = true;
+            return Some((taken, Asked::Nothing));
+        };
+        self.publishes |= matches!(asked, Asked::Content(_));
+        Some((taken, asked))
+    }
+
     pub fn login(&mut self) -> Done {
-        let start = self.link.end.heard(Kind::ConnectionStartOk);
+        let start = self.link.end.inner.heard(Kind::ConnectionStartOk);
         let start = start.and_then(StartOkRef::from_ref);
         let is_user = start.and_then(|start| is_allowed(self.alloc, self.users.as_str(), &start));
         let abilities = start.and_then(StartOkRef::capabilities);
@@ -61,34 +120,35 @@ impl Connection {
 
     /// Lets a client into the virtual host.
     pub fn enter(&mut self) -> Done {
-        let open = self.link.end.heard(Kind::ConnectionOpen);
+        let open = self.link.end.inner.heard(Kind::ConnectionOpen);
         let open = open.and_then(OpenRef::from_ref);
         let is_host = open.map(|open| open.virtual_host.as_bytes() == b"/".as_slice());
         self.admit(is_host, reply::NOT_ALLOWED, "no such host")
     }
 
     fn admit(&mut self, is_fine: Option<bool>, code: u16, why: &str) -> Done {
-        self.link.end.forget_heard();
+        self.end().forget_heard();
         if is_fine == Some(true) {
-            return Ok(self.link.end.admit()?);
+            return Ok(self.end().admit()?);
         }
         let why = ShortStr::text(self.alloc, why)?;
-        Ok(self.link.end.refuse(code, &why)?)
+        Ok(self.end().refuse(code, &why)?)
     }
 
     /// Whether so little waits to be written that more may be added.
     pub fn has_room(&self) -> bool {
-        !self.link.is_over() && self.link.end.waiting_in_all() <= FULL
+        !self.link.is_over() && self.link.end.inner.waiting_in_all() <= FULL
     }
 
     /// Writes what waits, and reads once. It answers how many octets came.
     pub fn turn(&mut self, is_short: bool, has_ticked: bool, room: &mut [u8]) -> usize
         ensures { result ≤ length room.new }
     {
-        self.publishes = is_short && (self.publishes || self.link.end.gathered_in_all() > 0);
+        let unfinished = self.unfinished.get();
+        self.publishes = is_short && (self.publishes || unfinished > 0);
         // refused where the connection closes, and then the client needn't know
         drop(self.block(self.publishes));
-        self.link.is_gone |= self.link.end.kept() > BOUND;
+        self.link.is_gone |= unfinished > BOUND;
         if has_ticked {
             self.link.tick();
         }
@@ -102,9 +162,9 @@ impl Connection {
         let was_blocked = replace(&mut self.is_blocked, is_blocked);
         if self.hears_blocked && is_blocked && !was_blocked {
             let reason = ShortStr::text(self.alloc, "low on memory")?;
-            self.link.end.blocked(&reason)?;
+            self.end().blocked(&reason)?;
         } else if self.hears_blocked && was_blocked && !is_blocked {
-            self.link.end.unblocked()?;
+            self.end().unblocked()?;
         }
         Ok(())
     }
@@ -118,52 +178,54 @@ impl Connection {
         let Some(consumer) = self.channel(number)?.ready_consumer(id) else {
             return Ok(false);
         };
-        let (tag, no_ack) = (consumer.tag.copy()?, consumer.no_ack);
-        self.send_first(queue, number, Some((id, tag)), no_ack)
+        let no_ack = consumer.no_ack;
+        self.send_first(queue, number, Some(id), no_ack)
     }
 
-    /// Sends the first message of a queue, to a consumer with this tag or in answer to basic.get. It answers whether
-    /// there was one.
+    /// Sends the first message of a queue, to a consumer or in answer to basic.get. It answers whether there was one.
     pub fn send_first(
         &mut self,
         queue: &mut Queue,
         number: u16,
-        consumer: Option<(u64, ShortStr)>,
+        consumer: Option<u64>,
         no_ack: bool,
     ) -> Result<bool> {
-        let Some((place, content, redelivered)) = queue.messages.first() else {
+        let Some((place, content, is_redelivered)) = queue.messages.first() else {
             return Ok(false);
         };
         let channel = self.channels.get_mut(&number).ok_or(AskFault::NotOpen)?;
         channel.last_tag = channel.last_tag.saturating_add(1);
-        let tag = channel.last_tag;
-        let exchange = content.publish.exchange.copy()?;
-        let key = content.publish.routing_key.copy()?;
-        let (id, consumer_tag) = consumer.unzip();
-        let method = if let Some(consumer_tag) = consumer_tag {
-            let mut deliver = Deliver::new(consumer_tag, tag, exchange, key);
-            deliver.redelivered = redelivered;
-            deliver.into_method(self.alloc)?
-        } else {
-            let left = queue.messages.count().saturating_sub(1);
-            let mut ok = GetOk::new(tag, exchange, key, left);
-            ok.redelivered = redelivered;
-            ok.into_method(self.alloc)?
-        };
         if !no_ack {
             let delivery = Delivery {
                 queue: queue.id,
                 place,
                 content: content.clone()?,
-                consumer: id,
+                consumer,
             };
-            channel.await_ack(tag, delivery)?;
+            channel.await_ack(channel.last_tag, delivery)?;
         }
-        let end = &mut self.link.end;
-        end.send_content(number, &method, &content.properties, &content.body)?;
+        let left = queue.messages.count().saturating_sub(1);
+        let method = match consumer.and_then(|id| channel.consumers.get(&id)) {
+            Some(consumer) => content.deliver(&consumer.tag, channel.last_tag, is_redelivered)?,
+            None => content.get_ok(channel.last_tag, is_redelivered, left)?,
+        };
+        let properties = &content.header.properties;
+        let end = &mut self.link.end.inner;
+        end.send_content(number, &method, properties, &content.body)?;
         queue.messages.remove(place);
         Ok(true)
     }
+}
+
+fn open(alloc: Global, channels: &mut BTreeMap<u16, Channel>, number: u16) -> Result<Asked> {
+    channels.insert(number, Channel::new(alloc)?)?;
+    Ok(Asked::Nothing)
+}
+
+fn keep(method: &mut Vec<u8>, said: MethodRef<'_>, number: u16) -> Result<Asked> {
+    method.clear();
+    method.extend_from_slice(said.payload())?;
+    Ok(Asked::Method(number))
 }
 
 /// Whether a client may log in as it says. None: it says nothing that can be read.

@@ -1,194 +1,140 @@
-//! Exchanges: how each was declared, its bindings, and which of them a message takes.
+//! Exchanges: declared, deleted, bound.
 use crate::broker::Broker;
-use crate::fault::{Answer, Done, Result, answer, refused};
+use crate::fault::{Done, Result, refused};
 use crate::queues::{Place, QueueId};
 use amqp_method::reply;
-use amqp_typed::exchange::{self, Declare};
-use amqp_typed::{Typed, queue};
-use amqp_value::{ShortStr, Table, Value};
-use example_store::{Content, headers_match, topic_matches};
-use std::alloc::Global;
+use amqp_typed::{exchange, queue};
+use amqp_value::{ShortStr, TableRef};
+use example_store::{Binding, Content, Exchange, ExchangeType};
 
 /// The exchanges that are there from the start, with their types.
-const STANDARD: [(&str, &str); 5] = [
-    ("amq.direct", "direct"),
-    ("amq.fanout", "fanout"),
-    ("amq.topic", "topic"),
-    ("amq.headers", "headers"),
-    ("amq.match", "headers"),
+const STANDARD: [(&[u8], ExchangeType); 5] = [
+    (b"amq.direct", ExchangeType::Direct),
+    (b"amq.fanout", ExchangeType::Fanout),
+    (b"amq.topic", ExchangeType::Topic),
+    (b"amq.headers", ExchangeType::Headers),
+    (b"amq.match", ExchangeType::Headers),
 ];
-
-#[derive(Drop)]
-pub struct Binding {
-    queue: QueueId,
-    key: ShortStr,
-    args: Table,
-}
-
-impl Binding {
-    /// Whether it is the same, in whatever order its arguments stand.
-    fn is_same(&self, other: &Binding) -> bool {
-        let (own, others) = (self.args.pairs(), &other.args);
-        let is_there = |pair: &(ShortStr, Value)| others.get(pair.0.as_bytes()) == Some(&pair.1);
-        let are_alike = own.len() == others.len() && own.iter().all(is_there);
-        self.queue == other.queue && self.key == other.key && are_alike
-    }
-}
-
-#[derive(Drop)]
-pub struct Exchange {
-    declare: Declare,
-    bindings: Vec<Binding>,
-}
-
-impl Exchange {
-    /// Removes the bindings of a queue, or only the one. It answers whether the exchange goes with its last one.
-    pub fn unbind(&mut self, queue: QueueId, only: Option<&Binding>) -> bool {
-        let before = self.bindings.len();
-        self.bindings.retain(|own| match only {
-            Some(only) => !own.is_same(only),
-            None => own.queue != queue,
-        });
-        self.declare.auto_delete && before > 0 && self.bindings.is_empty()
-    }
-
-    fn route(&self, alloc: Global, message: &Content) -> Result<Vec<QueueId>> {
-        let key = &message.publish.routing_key;
-        let headers = message.properties.headers.as_ref();
-        let mut queues = Vec::new(alloc);
-        for binding in &self.bindings {
-            let matches = match self.declare.type_name.as_bytes() {
-                b"direct" => binding.key == *key,
-                b"fanout" => true,
-                b"topic" => topic_matches(alloc, &binding.key, key)?,
-                _ => headers_match(alloc, &binding.args, headers)?,
-            };
-            if matches {
-                queues.push(binding.queue)?;
-            }
-        }
-        queues.sort_unstable();
-        queues.dedup();
-        Ok(queues)
-    }
-}
-
-/// A declaration as it is kept, and compared with a later one.
-fn kept(mut declare: Declare, alloc: Global) -> Declare {
-    declare.no_wait = false;
-    declare.arguments = Table::new(alloc);
-    declare
-}
-
-/// Clients neither make nor delete what has no name, or one that begins so.
-pub fn check_not_reserved(name: &ShortStr) -> Done {
-    if name.is_empty() || name.as_bytes().starts_with(b"amq.") {
-        return refused(reply::ACCESS_REFUSED, "reserved name", Some(name));
-    }
-    Ok(())
-}
 
 impl Broker {
     pub fn add_standard_exchanges(&mut self) -> Done {
         for (name, kind) in STANDARD {
-            let name = ShortStr::text(self.alloc, name)?;
-            let mut declare = Declare::new(self.alloc, name, ShortStr::text(self.alloc, kind)?);
-            declare.durable = true;
-            self.add_exchange(declare)?;
+            self.add_exchange(name, Exchange::standard(self.alloc, kind))?;
         }
         Ok(())
     }
 
-    fn add_exchange(&mut self, declare: Declare) -> Done {
-        let kind = &declare.type_name;
-        let mut kinds = STANDARD.iter();
-        if !kinds.any(|known| known.1.as_bytes() == kind.as_bytes()) {
-            return refused(reply::COMMAND_INVALID, "unknown exchange type", Some(kind));
-        }
-        let name = Vec::from_slice(self.alloc, declare.exchange.as_bytes())?;
-        let bindings = Vec::new(self.alloc);
-        self.exchanges.insert(name, Exchange { declare, bindings })?;
+    fn add_exchange(&mut self, name: &[u8], exchange: Exchange) -> Done {
+        let name = Vec::from_slice(self.alloc, name)?;
+        self.exchanges.insert(name, exchange)?;
         Ok(())
     }
 
-    /// The exchange of a name. Nothing is declared or bound at the one without a name.
-    fn exchange(&mut self, name: &ShortStr) -> Result<&mut Exchange> {
-        match self.exchanges.get_mut(name.as_bytes()) {
-            Some(exchange) => Ok(exchange),
-            None if name.is_empty() => refused(reply::ACCESS_REFUSED, "default exchange", None),
-            None => refused(reply::NOT_FOUND, "no exchange", Some(name)),
+    /// Clients neither make nor delete what has no name, or one that begins so.
+    pub fn check_not_reserved(&self, name: &[u8]) -> Done {
+        if name.is_empty() || name.starts_with(b"amq.") {
+            return refused(
+                self.alloc,
+                reply::ACCESS_REFUSED,
+                "reserved name",
+                Some(name),
+            );
         }
+        Ok(())
+    }
+
+    /// Why there is no exchange of a name. Nothing is declared or bound at the one without a name.
+    fn no_exchange<T>(&self, name: &[u8]) -> Result<T> {
+        if name.is_empty() {
+            return refused(self.alloc, reply::ACCESS_REFUSED, "default exchange", None);
+        }
+        refused(self.alloc, reply::NOT_FOUND, "no exchange", Some(name))
     }
 
     /// The queues to which a message goes, each once.
-    pub fn route(&mut self, message: &Content) -> Result<Vec<QueueId>> {
-        let (alloc, name) = (self.alloc, &message.publish.exchange);
+    pub fn route(&self, message: &Content) -> Result<Vec<QueueId>> {
+        let name = message.publish.exchange.as_bytes();
         if name.is_empty() {
             let queue = self.names.get(message.publish.routing_key.as_bytes());
-            return Ok(queue.copied().into_iter().collect(alloc)?);
+            return Ok(queue.copied().into_iter().collect(self.alloc)?);
         }
-        let exchange = self.exchange(name)?;
-        if exchange.declare.internal {
-            return refused(reply::ACCESS_REFUSED, "internal exchange", Some(name));
-        }
-        exchange.route(alloc, message)
-    }
-
-    pub fn declare_exchange(&mut self, declare: Declare) -> Answer {
-        let declare = kept(declare, self.alloc);
-        if declare.passive {
-            self.exchange(&declare.exchange)?;
-        } else if let Some(own) = self.exchanges.get(declare.exchange.as_bytes()) {
-            if own.declare != declare {
-                let why = "declared otherwise: exchange";
-                return refused(reply::PRECONDITION_FAILED, why, Some(&declare.exchange));
+        match self.exchanges.get(name) {
+            Some(exchange) if exchange.is_internal() => {
+                let why = "internal exchange";
+                refused(self.alloc, reply::ACCESS_REFUSED, why, Some(name))
             }
-        } else {
-            check_not_reserved(&declare.exchange)?;
-            self.add_exchange(declare)?;
+            Some(exchange) => Ok(exchange.route(self.alloc, message)?),
+            None => self.no_exchange(name),
         }
-        answer(exchange::DeclareOk::new().into_method(self.alloc))
     }
 
-    pub fn delete_exchange(&mut self, delete: exchange::Delete) -> Answer {
-        let name = delete.exchange;
-        check_not_reserved(&name)?;
-        let exchange = self.exchanges.get(name.as_bytes());
-        if delete.if_unused && exchange.is_some_and(|exchange| !exchange.bindings.is_empty()) {
-            return refused(reply::PRECONDITION_FAILED, "in use", Some(&name));
+    pub fn declare_exchange(&mut self, at: Place, declare: exchange::DeclareView<'_>) -> Done {
+        let name = declare.exchange;
+        match self.exchanges.get(name) {
+            Some(_) if declare.passive => {}
+            Some(own) if own.is_as(declare) => {}
+            Some(_) => {
+                let why = "declared otherwise: exchange";
+                return refused(self.alloc, reply::PRECONDITION_FAILED, why, Some(name));
+            }
+            None if declare.passive => return self.no_exchange(name),
+            None => self.make_exchange(declare)?,
         }
-        self.exchanges.remove(name.as_bytes());
-        answer(exchange::DeleteOk::new().into_method(self.alloc))
+        self.send(at, exchange::DeclareOk::new())
+    }
+
+    fn make_exchange(&mut self, declare: exchange::DeclareView<'_>) -> Done {
+        self.check_not_reserved(declare.exchange)?;
+        let Some(kind) = ExchangeType::named(declare.type_name) else {
+            let (why, name) = ("unknown exchange type", Some(declare.type_name));
+            return refused(self.alloc, reply::COMMAND_INVALID, why, name);
+        };
+        let exchange = Exchange::declared(self.alloc, kind, declare);
+        self.add_exchange(declare.exchange, exchange)
+    }
+
+    pub fn delete_exchange(&mut self, at: Place, delete: exchange::DeleteView<'_>) -> Done {
+        let name = delete.exchange;
+        self.check_not_reserved(name)?;
+        let exchange = self.exchanges.get(name);
+        if delete.if_unused && exchange.is_some_and(Exchange::is_bound) {
+            return refused(self.alloc, reply::PRECONDITION_FAILED, "in use", Some(name));
+        }
+        self.exchanges.remove(name);
+        self.send(at, exchange::DeleteOk::new())
     }
 
     /// A binding of a queue. Where neither its name nor a key is given, the key is the name of the queue declared last.
-    fn bound(&mut self, at: Place, name: ShortStr, key: ShortStr, args: Table) -> Result<Binding> {
-        let queue = self.queue(at, &name)?;
+    fn bound(&self, at: Place, name: &[u8], key: &[u8], args: TableRef<'_>) -> Result<Binding> {
+        let queue = self.queue(at, name)?;
         let is_given = !name.is_empty() || !key.is_empty();
-        let key = if is_given {
-            key
-        } else {
-            queue.declare.queue.copy()?
-        };
-        let queue = queue.id;
-        Ok(Binding { queue, key, args })
+        let key = if is_given { key } else { queue.name.as_bytes() };
+        let key = ShortStr::new(self.alloc, key)?;
+        Ok(Binding {
+            queue: queue.id,
+            key,
+            args: args.to_owned(self.alloc)?,
+        })
     }
 
-    pub fn bind_queue(&mut self, at: Place, bind: queue::Bind) -> Answer {
+    pub fn bind_queue(&mut self, at: Place, bind: queue::BindView<'_>) -> Done {
         let binding = self.bound(at, bind.queue, bind.routing_key, bind.arguments)?;
-        let bindings = &mut self.exchange(&bind.exchange)?.bindings;
-        if !bindings.iter().any(|own| own.is_same(&binding)) {
-            bindings.push(binding)?;
+        match self.exchanges.get_mut(bind.exchange) {
+            Some(exchange) => exchange.bind(binding)?,
+            None => return self.no_exchange(bind.exchange),
         }
-        answer(queue::BindOk::new().into_method(self.alloc))
+        self.send(at, queue::BindOk::new())
     }
 
-    pub fn unbind_queue(&mut self, at: Place, unbind: queue::Unbind) -> Answer {
+    pub fn unbind_queue(&mut self, at: Place, unbind: queue::UnbindView<'_>) -> Done {
         let binding = self.bound(at, unbind.queue, unbind.routing_key, unbind.arguments)?;
-        let exchange = self.exchange(&unbind.exchange)?;
-        if exchange.unbind(binding.queue, Some(&binding)) {
-            self.exchanges.remove(unbind.exchange.as_bytes());
+        let is_over = match self.exchanges.get_mut(unbind.exchange) {
+            Some(exchange) => exchange.unbind(&binding),
+            None => return self.no_exchange(unbind.exchange),
+        };
+        if is_over {
+            self.exchanges.remove(unbind.exchange);
         }
-        answer(queue::UnbindOk::new().into_method(self.alloc))
+        self.send(at, queue::UnbindOk::new())
     }
 }

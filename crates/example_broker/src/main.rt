@@ -43,7 +43,9 @@ fn main(rt: HostRuntime) -> anyhow::Result<ExitCode> {
     if !users.as_str().lines().all(|line| line.contains(':')) {
         anyhow::bail!("a line of the users is not name:password");
     }
-    let mut broker = Broker::new(alloc, users)?;
+    let Ok(mut broker) = Broker::new(alloc, users) else {
+        anyhow::bail!("out of memory");
+    };
     serve(&rt, alloc, address.as_str(), &mut broker)?;
     Ok(ExitCode::SUCCESS)
 }

@@ -1,88 +1,102 @@
 //! Messages: published, consumed, fetched, acknowledged.
 use crate::broker::{BOUND, Broker};
 use crate::channel::Consumer;
-use crate::fault::{Answer, Done, answer, refused};
+use crate::fault::{Done, Fault, Result, refused};
 use crate::queues::Place;
 use amqp_core::AskFault;
 use amqp_method::reply;
-use amqp_typed::{Typed, basic, confirm};
+use amqp_typed::{basic, confirm};
 use amqp_value::ShortStr;
 use example_store::{Content, Credit};
 use std::rc::Rc;
 
 impl Broker {
-    /// Hands a message to the queues that it is bound for, and confirms it if the client asked for confirms.
-    pub fn publish(&mut self, at: Place, content: Content) -> Answer {
-        if content.publish.immediate {
-            return refused(reply::NOT_IMPLEMENTED, "immediate=true", None);
-        }
-        let queues = self.route(&content)?;
-        if queues.is_empty() && content.publish.mandatory {
-            self.send_back(at, &content)?;
-        }
+    /// Hands a message that is whole to the queues that it is bound for, and confirms it if the client asked for confirms.
+    pub fn publish(&mut self, at: Place) -> Done {
+        let content = self.channel(at)?.coming.take().ok_or(Fault::GivenUp)?;
         let content = Rc::new(self.alloc, content)?;
+        self.hand_out(at, &content)?;
+        self.confirm(at)
+    }
+
+    fn hand_out(&mut self, at: Place, content: &Rc<Content>) -> Done {
+        if content.publish.immediate {
+            return refused(self.alloc, reply::NOT_IMPLEMENTED, "immediate=true", None);
+        }
+        let queues = self.route(content)?;
+        if queues.is_empty() && content.publish.mandatory {
+            self.send_back(at, content)?;
+        }
         for id in &queues {
             if let Some(queue) = self.queues.get_mut(id) {
                 queue.messages.push(content.clone()?)?;
             }
         }
-        let connection = self.connection(at.0)?;
-        connection.publishes = true;
-        let Some(published) = &mut connection.channel(at.1)?.published else {
-            return Ok(None);
+        Ok(())
+    }
+
+    fn confirm(&mut self, at: Place) -> Done {
+        let Some(published) = &mut self.channel(at)?.published else {
+            return Ok(());
         };
         *published = published.saturating_add(1);
-        answer(basic::Ack::new(*published).into_method(self.alloc))
+        let tag = *published;
+        self.send(at, basic::Ack::new(tag))
     }
 
     fn send_back(&mut self, at: Place, content: &Content) -> Done {
         if !self.channel(at)?.is_flowing {
             let why = "a return is due while the channel is paused";
-            return refused(reply::PRECONDITION_FAILED, why, None);
+            return refused(self.alloc, reply::PRECONDITION_FAILED, why, None);
         }
-        let text = ShortStr::text(self.alloc, "NO_ROUTE")?;
-        let exchange = content.publish.exchange.copy()?;
-        let key = content.publish.routing_key.copy()?;
-        let returned = basic::Return::new(reply::NO_ROUTE, text, exchange, key);
-        let method = returned.into_method(self.alloc)?;
-        let end = self.end(at)?;
-        Ok(end.send_content(at.1, &method, &content.properties, &content.body)?)
+        let method = content.returned()?;
+        let (properties, body) = (&content.header.properties, &content.body);
+        Ok(self.end(at)?.send_content(at.1, &method, properties, body)?)
     }
 
-    pub fn select_confirms(&mut self, at: Place) -> Answer {
+    pub fn select_confirms(&mut self, at: Place) -> Done {
         let channel = self.channel(at)?;
         channel.published = channel.published.or(Some(0));
-        answer(confirm::SelectOk::new().into_method(self.alloc))
+        self.send(at, confirm::SelectOk::new())
     }
 
     /// Limits each consumer that is added from now on, or the whole channel.
-    pub fn set_qos(&mut self, at: Place, qos: basic::Qos) -> Answer {
-        let channel = self.channel(at)?;
+    pub fn set_qos(&mut self, at: Place, qos: basic::Qos) -> Done {
         if qos.prefetch_size != 0 {
-            return refused(reply::NOT_IMPLEMENTED, "prefetch_size!=0", None);
-        } else if qos.global {
+            return refused(self.alloc, reply::NOT_IMPLEMENTED, "prefetch_size!=0", None);
+        }
+        let channel = self.channel(at)?;
+        if qos.global {
             channel.credit.limit = qos.prefetch_count;
         } else {
             channel.prefetch = qos.prefetch_count;
             channel.credit.limit = 0;
         }
-        answer(basic::QosOk::new().into_method(self.alloc))
+        self.send(at, basic::QosOk::new())
     }
 
-    pub fn consume(&mut self, at: Place, consume: basic::Consume) -> Answer {
-        let (id, mut tag) = (self.next_id()?, consume.consumer_tag);
+    pub fn consume(&mut self, at: Place, consume: basic::ConsumeView<'_>) -> Done {
+        let tag = self.consumer_tag(consume.consumer_tag)?;
+        let ok = basic::ConsumeOk::new(tag.copy()?);
+        self.add_consumer(at, consume, tag)?;
+        self.send(at, ok)
+    }
+
+    fn consumer_tag(&mut self, tag: &[u8]) -> Result<ShortStr> {
         if tag.is_empty() {
-            tag = self.made_up_name("amq.ctag")?;
+            return self.made_up_name("amq.ctag");
         }
-        let queue = self.queue(at, &consume.queue)?;
-        if queue.is_taken || (consume.exclusive && !queue.consumers.is_empty()) {
-            return refused(reply::ACCESS_REFUSED, "in exclusive use", None);
+        Ok(ShortStr::new(self.alloc, tag)?)
+    }
+
+    fn add_consumer(&mut self, at: Place, consume: basic::ConsumeView<'_>, tag: ShortStr) -> Done {
+        let queue = self.consumed(at, consume)?;
+        if self.channel(at)?.consumer_with(tag.as_bytes()).is_some() {
+            let (why, tag) = ("consumer tag in use:", Some(tag.as_bytes()));
+            return refused(self.alloc, reply::NOT_ALLOWED, why, tag);
         }
-        let (queue, ok) = (queue.id, basic::ConsumeOk::new(tag.copy()?));
+        let id = self.next_id()?;
         let channel = self.channel(at)?;
-        if channel.consumer_with(&tag).is_some() {
-            return refused(reply::NOT_ALLOWED, "consumer tag in use:", Some(&tag));
-        }
         let consumer = Consumer {
             tag,
             queue,
@@ -93,52 +107,66 @@ impl Broker {
         let queue = self.queues.get_mut(&queue).ok_or(AskFault::NotOpen)?;
         queue.consumers.push_back((at, id))?;
         queue.is_taken = consume.exclusive;
-        answer(ok.into_method(self.alloc))
+        Ok(())
+    }
+
+    /// The queue that is to be consumed, if another consumer may have it.
+    fn consumed(&self, at: Place, consume: basic::ConsumeView<'_>) -> Result<u64> {
+        let queue = self.queue(at, consume.queue)?;
+        if queue.is_taken || (consume.exclusive && !queue.consumers.is_empty()) {
+            return refused(self.alloc, reply::ACCESS_REFUSED, "in exclusive use", None);
+        }
+        Ok(queue.id)
     }
 
     /// Removes a consumer. What it was sent still waits to be acknowledged.
-    pub fn cancel(&mut self, at: Place, cancel: basic::Cancel) -> Answer {
-        let tag = cancel.consumer_tag;
+    pub fn cancel(&mut self, at: Place, tag: &[u8]) -> Done {
         let channel = self.channel(at)?;
-        if let Some(id) = channel.consumer_with(&tag)
+        if let Some(id) = channel.consumer_with(tag)
             && let Some(consumer) = channel.consumers.remove(&id)
         {
             self.remove_consumer(consumer.queue, id);
         }
-        answer(basic::CancelOk::new(tag).into_method(self.alloc))
+        let tag = ShortStr::new(self.alloc, tag)?;
+        self.send(at, basic::CancelOk::new(tag))
     }
 
-    pub fn get(&mut self, at: Place, get: basic::Get) -> Answer {
-        let id = self.queue(at, &get.queue)?.id;
+    pub fn get(&mut self, at: Place, get: basic::GetView<'_>) -> Done {
+        let id = self.queue(at, get.queue)?.id;
         let queue = self.queues.get_mut(&id).ok_or(AskFault::NotOpen)?;
         let connection = self.connections.get_mut(&at.0).ok_or(AskFault::NotOpen)?;
-        if connection.link.end.waiting_in_all() > BOUND {
-            return refused(reply::RESOURCE_ERROR, "too much is not read", None);
+        if connection.end().waiting_in_all() > BOUND {
+            return refused(
+                self.alloc,
+                reply::RESOURCE_ERROR,
+                "too much is not read",
+                None,
+            );
         }
         if connection.send_first(queue, at.1, None, get.no_ack)? {
-            return Ok(None);
+            return Ok(());
         }
-        answer(basic::GetEmpty::new().into_method(self.alloc))
+        self.send(at, basic::GetEmpty::new())
     }
 
     /// Settles one message, or with `multiple` all up to it, where 0 stands for the last.
-    pub fn settle(&mut self, at: Place, tag: u64, multiple: bool, requeue: bool) -> Answer {
+    pub fn settle(&mut self, at: Place, tag: u64, multiple: bool, requeue: bool) -> Done {
         let connection = self.connections.get_mut(&at.0).ok_or(AskFault::NotOpen)?;
         let channel = connection.channel(at.1)?;
         let last = if multiple && tag == 0 { u64::MAX } else { tag };
         if last == tag && !channel.unacked.contains_key(&tag) {
-            return refused(reply::PRECONDITION_FAILED, "unknown delivery tag", None);
+            let why = "unknown delivery tag";
+            return refused(self.alloc, reply::PRECONDITION_FAILED, why, None);
         }
         let first = if multiple { 0 } else { tag };
-        channel.settle_in(&mut self.queues, first, last, requeue)?;
-        Ok(None)
+        channel.settle_in(&mut self.queues, first, last, requeue)
     }
 
-    pub fn recover(&mut self, at: Place, requeue: bool) -> Answer {
+    pub fn recover(&mut self, at: Place, requeue: bool) -> Done {
         if !requeue {
-            return refused(reply::NOT_IMPLEMENTED, "requeue=false", None);
+            return refused(self.alloc, reply::NOT_IMPLEMENTED, "requeue=false", None);
         }
         self.settle(at, 0, true, true)?;
-        answer(basic::RecoverOk::new().into_method(self.alloc))
+        self.send(at, basic::RecoverOk::new())
     }
 }

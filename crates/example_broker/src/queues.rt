@@ -1,14 +1,11 @@
 //! Queues: how each was declared, its messages, and who consumes them.
 use crate::broker::Broker;
 use crate::connection::Connection;
-use crate::exchanges::check_not_reserved;
-use crate::fault::{Answer, Done, Result, answer, refused};
+use crate::fault::{Done, Fault, Result, refused};
 use amqp_method::reply;
-use amqp_typed::Typed;
-use amqp_typed::queue::{self, Declare};
-use amqp_value::{ShortStr, Table};
+use amqp_typed::queue;
+use amqp_value::ShortStr;
 use example_store::Messages;
-use std::alloc::Global;
 use std::collections::{BTreeMap, VecDeque};
 
 /// Never used again, so what still refers to a queue that is gone finds none.
@@ -23,9 +20,11 @@ pub struct Place(pub usize, pub u16);
 #[derive(Drop)]
 pub struct Queue {
     pub id: QueueId,
-    pub declare: Declare,
+    pub name: ShortStr,
     /// The connection that alone may use the queue, and with which it ends.
     pub owner: Option<usize>,
+    is_durable: bool,
+    is_auto_deleted: bool,
     /// One consumer has the queue for itself.
     pub is_taken: bool,
     pub messages: Messages,
@@ -34,6 +33,12 @@ pub struct Queue {
 }
 
 impl Queue {
+    /// Whether it was declared in this way. What is exclusive ends with its connection anyway.
+    fn is_as(&self, declare: queue::DeclareView<'_>) -> bool {
+        self.is_durable == (declare.durable && !declare.exclusive)
+            && self.is_auto_deleted == declare.auto_delete
+    }
+
     /// Sends what it can to the consumers, by turns. It answers whether it sent any.
     pub fn deliver(&mut self, connections: &mut BTreeMap<usize, Connection>) -> bool {
         let (mut passed, mut has_sent) = (0, false);
@@ -58,105 +63,116 @@ impl Queue {
     }
 }
 
-/// A declaration as it is kept, and compared with a later one. What is exclusive ends with its connection anyway.
-fn kept(mut declare: Declare, name: ShortStr, alloc: Global) -> Declare {
-    declare.queue = name;
-    declare.durable &= !declare.exclusive;
-    declare.no_wait = false;
-    declare.arguments = Table::new(alloc);
-    declare
-}
-
 impl Broker {
     /// The name of a queue that a method means: an empty one stands for the one declared last on the channel.
-    fn queue_name(&mut self, at: Place, name: &ShortStr) -> Result<ShortStr> {
-        if name.is_empty() {
-            return Ok(self.channel(at)?.last_queue.copy()?);
+    fn queue_name<'a>(&'a self, at: Place, name: &'a [u8]) -> &'a [u8] {
+        let connection = self.connections.get(&at.0);
+        let channel = connection.and_then(|connection| connection.channels.get(&at.1));
+        match channel {
+            Some(channel) if name.is_empty() => channel.last_queue.as_bytes(),
+            _ => name,
         }
-        Ok(name.copy()?)
     }
 
-    pub fn queue(&mut self, at: Place, name: &ShortStr) -> Result<&mut Queue> {
-        let name = self.queue_name(at, name)?;
-        let id = self.names.get(name.as_bytes());
-        let Some(queue) = id.and_then(|id| self.queues.get_mut(id)) else {
-            return refused(reply::NOT_FOUND, "no queue", Some(&name));
+    pub fn queue(&self, at: Place, name: &[u8]) -> Result<&Queue> {
+        let name = self.queue_name(at, name);
+        let id = self.names.get(name);
+        let Some(queue) = id.and_then(|id| self.queues.get(id)) else {
+            return refused(self.alloc, reply::NOT_FOUND, "no queue", Some(name));
         };
         if queue.owner.is_some_and(|owner| owner != at.0) {
-            return refused(reply::RESOURCE_LOCKED, "another has queue", Some(&name));
+            return self.locked(name);
         }
         Ok(queue)
     }
 
-    pub fn declare_queue(&mut self, at: Place, declare: Declare) -> Answer {
+    fn locked<T>(&self, name: &[u8]) -> Result<T> {
+        let why = "another has queue";
+        refused(self.alloc, reply::RESOURCE_LOCKED, why, Some(name))
+    }
+
+    pub fn declare_queue(&mut self, at: Place, declare: queue::DeclareView<'_>) -> Done {
         let is_unnamed = declare.queue.is_empty() && !declare.passive;
         let name = if is_unnamed {
             self.made_up_name("amq.gen")?
         } else {
-            self.queue_name(at, &declare.queue)?
+            ShortStr::new(self.alloc, self.queue_name(at, declare.queue))?
         };
-        let declare = kept(declare, name.copy()?, self.alloc);
-        if declare.passive || self.names.contains_key(name.as_bytes()) {
-            self.check_declared(at, &declare)?;
-        } else {
-            if !is_unnamed {
-                check_not_reserved(&name)?;
-            }
-            self.add_queue(at, declare)?;
-        }
-        let queue = self.queue(at, &name)?;
-        let ready = queue.messages.count();
-        let consumers = u32::try_from(queue.consumers.len()).unwrap_or(u32::MAX);
-        self.channel(at)?.last_queue = name.copy()?;
-        answer(queue::DeclareOk::new(name, ready, consumers).into_method(self.alloc))
+        let (ready, consumers) = self.declare_named(at, declare, &name)?;
+        self.send(at, queue::DeclareOk::new(name, ready, consumers))
     }
 
-    fn add_queue(&mut self, at: Place, declare: Declare) -> Done {
+    /// Declares a queue of this name. It answers how many messages and consumers it has.
+    fn declare_named(
+        &mut self,
+        at: Place,
+        declare: queue::DeclareView<'_>,
+        name: &ShortStr,
+    ) -> Result<(u32, u32)> {
+        if declare.passive || self.names.contains_key(name.as_bytes()) {
+            self.check_declared(at, declare, name)?;
+        } else {
+            if !declare.queue.is_empty() {
+                self.check_not_reserved(name.as_bytes())?;
+            }
+            self.add_queue(at, declare, name)?;
+        }
+        self.channel(at)?.last_queue = name.copy()?;
+        let queue = self.queue(at, name.as_bytes())?;
+        let consumers = u32::try_from(queue.consumers.len()).unwrap_or(u32::MAX);
+        Ok((queue.messages.count(), consumers))
+    }
+
+    fn add_queue(&mut self, at: Place, declare: queue::DeclareView<'_>, name: &ShortStr) -> Done {
         let id = self.next_id()?;
-        let name = Vec::from_slice(self.alloc, declare.queue.as_bytes())?;
-        self.names.insert(name, id)?;
         let queue = Queue {
             id,
+            name: name.copy()?,
             owner: declare.exclusive.then_some(at.0),
-            declare,
+            is_durable: declare.durable && !declare.exclusive,
+            is_auto_deleted: declare.auto_delete,
             is_taken: false,
             messages: Messages::new(self.alloc),
             consumers: VecDeque::new(self.alloc),
         };
         self.queues.insert(id, queue)?;
+        let name = Vec::from_slice(self.alloc, name.as_bytes())?;
+        self.names.insert(name, id)?;
         Ok(())
     }
 
-    fn check_declared(&mut self, at: Place, declare: &Declare) -> Done {
-        let name = Some(&declare.queue);
-        let own = &self.queue(at, &declare.queue)?.declare;
-        if declare.passive || *own == *declare {
+    fn check_declared(&self, at: Place, declare: queue::DeclareView<'_>, name: &ShortStr) -> Done {
+        let own = self.queue(at, name.as_bytes())?;
+        if declare.passive || (own.is_as(declare) && own.owner.is_some() == declare.exclusive) {
             return Ok(());
-        } else if own.exclusive != declare.exclusive {
-            return refused(reply::RESOURCE_LOCKED, "another has queue", name);
+        } else if own.owner.is_some() != declare.exclusive {
+            return self.locked(name.as_bytes());
         }
-        refused(reply::PRECONDITION_FAILED, "declared otherwise:", name)
+        let (why, name) = ("declared otherwise:", Some(name.as_bytes()));
+        refused(self.alloc, reply::PRECONDITION_FAILED, why, name)
     }
 
-    pub fn delete_queue(&mut self, at: Place, delete: queue::Delete) -> Answer {
-        let name = self.queue_name(at, &delete.queue)?;
-        if !self.names.contains_key(name.as_bytes()) {
-            return answer(queue::DeleteOk::new(0).into_method(self.alloc));
+    pub fn delete_queue(&mut self, at: Place, delete: queue::DeleteView<'_>) -> Done {
+        let name = self.queue_name(at, delete.queue);
+        if !self.names.contains_key(name) {
+            return self.send(at, queue::DeleteOk::new(0));
         }
-        let queue = self.queue(at, &name)?;
+        let queue = self.queue(at, name)?;
         let (id, ready) = (queue.id, queue.messages.count());
         if (delete.if_unused && !queue.consumers.is_empty()) || (delete.if_empty && ready > 0) {
-            return refused(reply::PRECONDITION_FAILED, "in use: queue", Some(&name));
+            let why = "in use: queue";
+            return refused(self.alloc, reply::PRECONDITION_FAILED, why, Some(name));
         }
         self.remove_queue(id);
-        answer(queue::DeleteOk::new(ready).into_method(self.alloc))
+        self.send(at, queue::DeleteOk::new(ready))
     }
 
-    pub fn purge_queue(&mut self, at: Place, purge: queue::Purge) -> Answer {
-        let messages = &mut self.queue(at, &purge.queue)?.messages;
-        let ready = messages.count();
-        messages.purge();
-        answer(queue::PurgeOk::new(ready).into_method(self.alloc))
+    pub fn purge_queue(&mut self, at: Place, name: &[u8]) -> Done {
+        let id = self.queue(at, name)?.id;
+        let queue = self.queues.get_mut(&id).ok_or(Fault::GivenUp)?;
+        let ready = queue.messages.count();
+        queue.messages.purge();
+        self.send(at, queue::PurgeOk::new(ready))
     }
 
     /// A consumer is gone, and with the last one a queue that deletes itself.
@@ -164,7 +180,7 @@ impl Broker {
         if let Some(queue) = self.queues.get_mut(&id) {
             queue.consumers.retain(|seat| seat.1 != consumer);
             queue.is_taken &= !queue.consumers.is_empty();
-            if queue.consumers.is_empty() && queue.declare.auto_delete {
+            if queue.consumers.is_empty() && queue.is_auto_deleted {
                 self.remove_queue(id);
             }
         }
@@ -173,13 +189,13 @@ impl Broker {
     /// Removes a queue with its consumers and its bindings, and the exchanges that go with these.
     pub fn remove_queue(&mut self, id: QueueId) {
         if let Some(queue) = self.queues.remove(&id) {
-            self.names.remove(queue.declare.queue.as_bytes());
+            self.names.remove(queue.name.as_bytes());
             for (at, id) in queue.consumers.iter() {
                 if let Ok(channel) = self.channel(*at) {
                     channel.consumers.remove(id);
                 }
             }
-            self.exchanges.retain(|_, own| !own.unbind(id, None));
+            self.exchanges.retain(|_, own| !own.unbind_queue(id));
         }
     }
 }

@@ -1,5 +1,5 @@
 //! The command line, and what the programs say of themselves in the handshake.
-use amqp_core::{Client, ClientHello, Config, End, Server, ServerHello};
+use amqp_core::{Client, ClientHello, Config, End, Server, ServerHello, StreamEnd};
 use amqp_value::{ShortStr, Table, Value};
 use std::alloc::Global;
 
@@ -33,7 +33,11 @@ fn properties(alloc: Global, product: &str, abilities: &str) -> anyhow::Result<T
 }
 
 /// A server that looks at each login itself, by PLAIN or AMQPLAIN. It is a program of this name, with these abilities.
-pub fn server_end(alloc: Global, product: &str, abilities: &str) -> anyhow::Result<End<Server>> {
+pub fn server_end(
+    alloc: Global,
+    product: &str,
+    abilities: &str,
+) -> anyhow::Result<StreamEnd<Server>> {
     let mut config = Config::new(ServerHello {
         properties: properties(alloc, product, abilities)?,
         mechanisms: Vec::from_slice(alloc, b"PLAIN AMQPLAIN")?,
@@ -42,7 +46,7 @@ pub fn server_end(alloc: Global, product: &str, abilities: &str) -> anyhow::Resu
     config.gated = true;
     config.max_body = MAX_BODY;
     config.heartbeat = HEARTBEAT;
-    Ok(End::new(alloc, config)?)
+    Ok(End::new(alloc, config)?.into_stream())
 }
 
 /// A client likewise, which logs in by PLAIN, and goes to the virtual host `/`.
@@ -52,7 +56,7 @@ pub fn client_end(
     abilities: &str,
     user: &str,
     password: &str,
-) -> anyhow::Result<End<Client>> {
+) -> anyhow::Result<StreamEnd<Client>> {
     let response = format!(in alloc; "\0{user}\0{password}")?;
     let mut config = Config::new(ClientHello {
         properties: properties(alloc, product, abilities)?,
@@ -63,5 +67,5 @@ pub fn client_end(
     });
     config.max_body = MAX_BODY;
     config.heartbeat = HEARTBEAT;
-    Ok(End::new(alloc, config)?)
+    Ok(End::new(alloc, config)?.into_stream())
 }

@@ -3,7 +3,6 @@
 #![tactic(auto)]
 
 mod contents;
-mod ends;
 mod hello;
 mod link;
 mod pulse;
@@ -12,7 +11,6 @@ mod sockets;
 mod streaming;
 
 pub use crate::contents::{Coming, Content, may_go_later, octets_of};
-pub use crate::ends::AnyEnd;
 pub use crate::hello::{ABILITIES, client_end, server_end, word_after};
 pub use crate::link::{FULL, Heard, Link, MOST};
 pub use crate::running::{Program, serve};

@@ -1,13 +1,13 @@
 //! One end of a connection with its socket, which never waits.
 ghost use Rattle.std.specs.Prelude.{◌≡◌, ◌≤◌, IfSome, length};
 
-use crate::ends::AnyEnd;
 use crate::pulse::Pulse;
 use crate::streaming::Streaming;
-use amqp_core::{Cause, End, Event, EventRef, Phase, Role};
+use amqp_core::{Cause, EventRef, Phase, Role, StreamEnd};
 use amqp_method::Kind;
 use mio::event;
 use mio::net::TcpStream;
+use std::alloc::Global;
 use std::io::{ErrorKind, Read};
 
 /// Where more octets wait to be written, no more are to be made: a program doesn't read who asks for them.
@@ -17,8 +17,8 @@ pub const FULL: usize = 1_048_576;
 pub const MOST: usize = 268_435_456;
 
 #[derive(Drop)]
-pub struct Link<E: AnyEnd> {
-    pub end: E,
+pub struct Link<R: Role> {
+    pub end: Streaming<R>,
     stream: TcpStream,
     /// As far as it is known, the socket has octets to read.
     can_read: bool,
@@ -33,10 +33,10 @@ pub struct Link<E: AnyEnd> {
     pulse: Pulse,
 }
 
-impl<E: AnyEnd> Link<E> {
-    pub fn new(stream: TcpStream, end: E) -> Link<E> {
+impl<R: Role> Link<R> {
+    pub fn new(alloc: Global, stream: TcpStream, end: StreamEnd<R>) -> Link<R> {
         Link {
-            end,
+            end: Streaming::new(alloc, end),
             stream,
             can_read: true,
             can_write: true,
@@ -127,49 +127,7 @@ impl<E: AnyEnd> Link<E> {
             let _ = self.end.beat();
         }
     }
-}
 
-impl<R: Role> Link<End<R>> {
-    /// Feeds the end up to its next event. None: all octets are taken, or the end takes no more.
-    pub fn hear(&mut self, octets: &mut &[u8]) -> Option<Event> {
-        for _ in 0..u64::MAX {
-            if octets.is_empty() || self.is_over() {
-                break;
-            }
-            let Ok(taken) = self.end.feed(octets) else {
-                break;
-            };
-            *octets = &octets[taken.octets..];
-            if taken.event.is_some() {
-                return taken.event;
-            }
-        }
-        None
-    }
-}
-
-/// An event as it is heard.
-#[derive(Clone, Copy)]
-pub struct Heard<'a> {
-    /// The channel that it tells of, or 0.
-    pub number: u16,
-    pub event: EventRef<'a>,
-    /// Of a close: the kind of the method that it is about, if it names one.
-    pub about: Option<Kind>,
-}
-
-impl Heard<'_> {
-    /// Prints a line for it, if it isn't of the content that follows a method.
-    pub fn print(&self, rt: &impl Print, is_client: bool) {
-        if matches!(self.event, EventRef::Heads(..) | EventRef::Part(..)) {
-            return;
-        }
-        let name = if is_client { "broker" } else { "client" };
-        drop(println!(rt; "{name} {}", self.event));
-    }
-}
-
-impl<R: Role> Link<Streaming<R>> {
     /// The channel of the other side from which a content comes that is under way, unless the peer is gone.
     pub fn source(&self) -> Option<u16> {
         if self.is_gone {
@@ -180,7 +138,7 @@ impl<R: Role> Link<Streaming<R>> {
 
     /// Takes octets up to the end of a frame, and answers how many, and what the frame says, if it is whole. None: all
     /// octets are taken, or the end takes no more.
-    pub fn hear_ref<'a>(&'a mut self, octets: &'a [u8]) -> Option<(usize, Option<Heard<'a>>)>
+    pub fn hear<'a>(&'a mut self, octets: &'a [u8]) -> Option<(usize, Option<Heard<'a>>)>
         ensures within { IfSome result (λ taken. taken.0 ≤ length octets.now) }
     {
         if octets.is_empty() || self.is_over() {
@@ -203,6 +161,27 @@ impl<R: Role> Link<Streaming<R>> {
             }
             None => Some((taken, None)),
         }
+    }
+}
+
+/// An event as it is heard.
+#[derive(Clone, Copy)]
+pub struct Heard<'a> {
+    /// The channel that it tells of, or 0.
+    pub number: u16,
+    pub event: EventRef<'a>,
+    /// Of a close: the kind of the method that it is about, if it names one.
+    pub about: Option<Kind>,
+}
+
+impl Heard<'_> {
+    /// Prints a line for it, if it isn't of the content that follows a method.
+    pub fn print(&self, rt: &impl Print, is_client: bool) {
+        if matches!(self.event, EventRef::Heads(..) | EventRef::Part(..)) {
+            return;
+        }
+        let name = if is_client { "broker" } else { "client" };
+        drop(println!(rt; "{name} {}", self.event));
     }
 }
 

@@ -1,5 +1,4 @@
 //! An end that sends contents as their bodies come.
-use crate::ends::AnyEnd;
 use crate::link::FULL;
 use amqp_core::{AskFault, BodyFault, BodyWriter, LendFault, Phase, Role, StreamEnd};
 use amqp_method::{Method, Properties};
@@ -100,17 +99,18 @@ impl<R: Role> Streaming<R> {
     }
 }
 
-impl<R: Role> AnyEnd for Streaming<R> {
-    fn phase(&self) -> Phase {
+impl<R: Role> Streaming<R> {
+    pub fn phase(&self) -> Phase {
         self.inner.phase()
     }
 
-    fn has_output(&self) -> bool {
+    pub fn has_output(&self) -> bool {
         let has_next = self.under_way.is_none() && !self.inner.output().is_empty();
         has_next || !self.ahead().is_empty()
     }
 
-    fn write_to(&mut self, stream: &mut TcpStream) -> io::Result<()> {
+    /// Writes once what waits, as far as the socket takes it.
+    pub(crate) fn write_to(&mut self, stream: &mut TcpStream) -> io::Result<()> {
         let count = if !self.ahead().is_empty() {
             let count = stream.write(self.ahead())?;
             self.let_go(count);
@@ -126,19 +126,20 @@ impl<R: Role> AnyEnd for Streaming<R> {
         Ok(())
     }
 
-    fn heartbeat(&self) -> u16 {
+    pub(crate) fn heartbeat(&self) -> u16 {
         self.inner.heartbeat()
     }
 
-    /// While a content is under way none goes out.
-    fn beat(&mut self) -> Result<(), AskFault> {
+    /// Puts a heartbeat. While a content is under way none goes out.
+    pub(crate) fn beat(&mut self) -> Result<(), AskFault> {
         if self.under_way.is_some() {
             return Ok(());
         }
         self.inner.beat()
     }
 
-    fn counts(&self) -> (u64, u64) {
+    /// How many octets were taken, and how many were written.
+    pub(crate) fn counts(&self) -> (u64, u64) {
         (self.inner.octets_taken(), self.written)
     }
 }

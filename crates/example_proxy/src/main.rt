@@ -99,11 +99,11 @@ impl Program for Relays<'_> {
 
     fn add(&mut self, to: &impl Connect, number: usize, stream: TcpStream) -> Done {
         let alloc = self.alloc;
-        let client = server_end(alloc, "example_proxy", ABILITIES)?.into_stream();
+        let client = server_end(alloc, "example_proxy", ABILITIES)?;
         let client = Peer::new(alloc, stream, client, self.log)?;
         let broker = client_end(alloc, "example_proxy", ABILITIES, self.user, self.password)?;
         let stream = to.connect(number, self.broker)?;
-        let broker = Peer::new(alloc, stream, broker.into_stream(), self.log)?;
+        let broker = Peer::new(alloc, stream, broker, self.log)?;
         self.relays.insert(number, Relay { client, broker })?;
         Ok(())
     }

@@ -6,7 +6,7 @@ use amqp_core::{Ask, EventRef, Role, StreamEnd};
 use amqp_method::reply;
 use amqp_value::ShortStr;
 use anyhow::Result;
-use example_loop::{FULL, Heard, Link, Streaming};
+use example_loop::{FULL, Heard, Link};
 use mio::net::TcpStream;
 use std::alloc::Global;
 use std::collections::BTreeMap;
@@ -16,7 +16,7 @@ pub type Done = Result<()>;
 #[derive(Drop)]
 pub struct Peer<R: Role> {
     alloc: Global,
-    pub link: Link<Streaming<R>>,
+    pub link: Link<R>,
     channels: BTreeMap<u16, Channel>,
     log: bool,
 }
@@ -27,7 +27,7 @@ impl<R: Role> Peer<R> {
         channels.insert(0, Channel::new(alloc, 0))?;
         Ok(Peer {
             alloc,
-            link: Link::new(stream, Streaming::new(alloc, end)),
+            link: Link::new(alloc, stream, end),
             channels,
             log,
         })
@@ -80,7 +80,7 @@ impl<R: Role> Peer<R> {
     ) -> Result<Option<usize>>
         ensures { IfOk result (λ taken. IfSome taken (λ taken. taken ≤ length octets.now)) }
     {
-        let Some((taken, heard)) = self.link.hear_ref(octets) else {
+        let Some((taken, heard)) = self.link.hear(octets) else {
             return Ok(None);
         };
         if let Some(heard) = heard {

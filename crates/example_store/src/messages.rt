@@ -3,8 +3,10 @@ ghost use Rattle.std.specs.Prelude.{ℕ, ◌≡◌, ◌<◌, true, is_some};
 ghost use Rattle.std.specs.Ordering.{nat_cmp};
 ghost use Rattle.std.specs.BTreeMap as tree;
 
-use amqp_method::Properties;
-use amqp_typed::basic::Publish;
+use amqp_method::{Header, HeaderRef, Method, OutOfMemory, reply};
+use amqp_typed::Typed;
+use amqp_typed::basic::{Deliver, GetOk, Publish, PublishView, Return};
+use amqp_value::ShortStr;
 use std::alloc::{AllocError, Global};
 use std::cell::Cell;
 use std::collections::BTreeMap;
@@ -16,33 +18,136 @@ const OVERHEAD: usize = 512;
 /// A table takes about so many times the memory that it takes in a header.
 const SPREAD: u64 = 16;
 
-/// A message as it was published. The queues that hold it share it.
+/// A message as it was published, or what has come of it. The queues that hold it share it.
 #[derive(Drop)]
 pub struct Content {
     pub publish: Publish,
-    pub properties: Properties,
+    pub header: Header,
     pub body: Vec<u8>,
-    pub share: Share,
+    share: Share,
+}
+
+impl Content {
+    ghost use Rattle.std.specs.Prelude.{[], ◌++◌, IfOk, OnOk};
+    ghost use Rattle.amqp_method.specs.HeaderRefView.{lent_header};
+    ghost use Rattle.amqp_method.specs.HeaderView.{header_view};
+
+    /// A message that is published so, of which no more has come. Its octets are counted among these.
+    pub fn begin(
+        alloc: Global,
+        publish: PublishView<'_>,
+        octets: &Rc<Cell<usize>>,
+    ) -> Result<Content, OutOfMemory>
+        ensures { IfOk result (λ content. content.body.items ≡ []) }
+    {
+        let exchange = short_str(alloc, publish.exchange)?;
+        let routing_key = short_str(alloc, publish.routing_key)?;
+        Ok(Content {
+            publish: Publish {
+                exchange,
+                routing_key,
+                mandatory: publish.mandatory,
+                immediate: publish.immediate,
+            },
+            header: Header::default(),
+            body: Vec::new(alloc),
+            share: Share::new(OVERHEAD, octets.clone()?),
+        })
+    }
+
+    /// Its header is there.
+    pub fn head(&mut self, alloc: Global, header: HeaderRef<'_>) -> Result<(), OutOfMemory>
+        ensures { OnOk result (header_view self.new.header ≡ lent_header header.entry) }
+    {
+        header.read_into(alloc, &mut self.header)?;
+        let length = self.header.payload_length().saturating_mul(SPREAD);
+        self.share
+            .add(usize::try_from(length).unwrap_or(usize::MAX));
+        Ok(())
+    }
+
+    /// One more part of its body is there.
+    pub fn add(&mut self, part: &[u8]) -> Result<(), AllocError>
+        ensures { OnOk result (self.new.body.items ≡ self.old.body.items ++ part.now) }
+    {
+        self.body.extend_from_slice(part)?;
+        self.share.add(part.len());
+        Ok(())
+    }
+
+    /// Its octets are counted among these from now on.
+    pub fn count_among(&mut self, octets: &Rc<Cell<usize>>) -> Result<(), AllocError> {
+        self.share = Share::new(self.share.octets, octets.clone()?);
+        Ok(())
+    }
+}
+
+/// What a method says is no longer than a short string may be, so that this fails for memory alone.
+fn short_str(alloc: Global, octets: &[u8]) -> Result<ShortStr, OutOfMemory> {
+    ShortStr::new(alloc, octets).map_err(|_| OutOfMemory)
+}
+
+/// The names of the exchange and of the key, for another method.
+fn names(publish: &Publish) -> Result<(ShortStr, ShortStr), amqp_value::OutOfMemory> {
+    let exchange = publish.exchange.copy()?;
+    Ok((exchange, publish.routing_key.copy()?))
+}
+
+/// The methods that it is sent with.
+impl Content {
+    /// To a consumer with this tag.
+    pub fn deliver(
+        &self,
+        consumer: &ShortStr,
+        tag: u64,
+        redelivered: bool,
+    ) -> Result<Method, OutOfMemory> {
+        let consumer_tag = consumer.copy()?;
+        let (exchange, key) = names(&self.publish)?;
+        let mut deliver = Deliver::new(consumer_tag, tag, exchange, key);
+        deliver.redelivered = redelivered;
+        deliver.into_method(*self.body.allocator())
+    }
+
+    /// In answer to basic.get, where so many messages are left.
+    pub fn get_ok(&self, tag: u64, redelivered: bool, left: u32) -> Result<Method, OutOfMemory> {
+        let (exchange, key) = names(&self.publish)?;
+        let mut ok = GetOk::new(tag, exchange, key, left);
+        ok.redelivered = redelivered;
+        ok.into_method(*self.body.allocator())
+    }
+
+    /// Back to who published it.
+    pub fn returned(&self) -> Result<Method, OutOfMemory> {
+        let alloc = *self.body.allocator();
+        let text = short_str(alloc, b"NO_ROUTE")?;
+        let (exchange, key) = names(&self.publish)?;
+        Return::new(reply::NO_ROUTE, text, exchange, key).into_method(alloc)
+    }
 }
 
 /// So many octets are counted among those that all messages hold, for as long as the share is kept.
-pub struct Share(usize, Rc<Cell<usize>>);
+struct Share {
+    octets: usize,
+    all: Rc<Cell<usize>>,
+}
 
 impl Share {
-    /// Of a message whose header and body have these lengths.
-    pub fn new(header: u64, body: usize, held: &Rc<Cell<usize>>) -> Result<Share, AllocError> {
-        let header = usize::try_from(header.saturating_mul(SPREAD)).unwrap_or(usize::MAX);
-        let octets = OVERHEAD.saturating_add(header).saturating_add(body);
-        let held = held.clone()?;
-        held.set(held.get().saturating_add(octets));
-        Ok(Share(octets, held))
+    fn new(octets: usize, all: Rc<Cell<usize>>) -> Share {
+        all.set(all.get().saturating_add(octets));
+        Share { octets, all }
+    }
+
+    fn add(&mut self, octets: usize) {
+        self.octets = self.octets.saturating_add(octets);
+        self.all.set(self.all.get().saturating_add(octets));
     }
 }
 
 impl Drop for Share {
     fn drop(self) {
-        let Share(octets, held) = self;
-        held.set(held.get().saturating_sub(octets));
+        let Share { octets, all } = self;
+        all.set(all.get().saturating_sub(octets));
     }
 }
 

@@ -1,0 +1,153 @@
+//! Exchanges: how each was declared, its bindings, and which of them a message takes.
+use crate::headers::headers_match;
+use crate::messages::Content;
+use crate::topic::topic_matches;
+use amqp_typed::exchange::DeclareView;
+use amqp_value::{ShortStr, Table, Value};
+use std::alloc::{AllocError, Global};
+
+/// Which bindings of an exchange a message takes.
+#[derive(Clone, Copy, PartialEq, Eq)]
+pub enum ExchangeType {
+    Direct,
+    Fanout,
+    Topic,
+    Headers,
+}
+
+impl ExchangeType {
+    pub fn named(name: &[u8]) -> Option<ExchangeType> {
+        match name {
+            b"direct" => Some(ExchangeType::Direct),
+            b"fanout" => Some(ExchangeType::Fanout),
+            b"topic" => Some(ExchangeType::Topic),
+            b"headers" => Some(ExchangeType::Headers),
+            _ => None,
+        }
+    }
+}
+
+/// Sends messages to a queue, which has this number.
+#[derive(Drop)]
+pub struct Binding {
+    pub queue: u64,
+    pub key: ShortStr,
+    pub args: Table,
+}
+
+impl Binding {
+    /// Whether it is the same, in whatever order its arguments stand.
+    fn is_same(&self, other: &Binding) -> bool {
+        let (own, others) = (self.args.pairs(), &other.args);
+        let is_there = |pair: &(ShortStr, Value)| others.get(pair.0.as_bytes()) == Some(&pair.1);
+        let are_alike = own.len() == others.len() && own.iter().all(is_there);
+        self.queue == other.queue && self.key == other.key && are_alike
+    }
+}
+
+#[derive(Drop)]
+pub struct Exchange {
+    kind: ExchangeType,
+    is_durable: bool,
+    is_auto_deleted: bool,
+    is_internal: bool,
+    bindings: Vec<Binding>,
+}
+
+impl Exchange {
+    /// One that is there from the start.
+    pub fn standard(alloc: Global, kind: ExchangeType) -> Exchange {
+        Exchange {
+            kind,
+            is_durable: true,
+            is_auto_deleted: false,
+            is_internal: false,
+            bindings: Vec::new(alloc),
+        }
+    }
+
+    /// One of this type that is declared so.
+    pub fn declared(alloc: Global, kind: ExchangeType, declare: DeclareView<'_>) -> Exchange {
+        Exchange {
+            kind,
+            is_durable: declare.durable,
+            is_auto_deleted: declare.auto_delete,
+            is_internal: declare.internal,
+            bindings: Vec::new(alloc),
+        }
+    }
+
+    /// Whether it was declared so.
+    pub fn is_as(&self, declare: DeclareView<'_>) -> bool {
+        ExchangeType::named(declare.type_name) == Some(self.kind)
+            && self.is_durable == declare.durable
+            && self.is_auto_deleted == declare.auto_delete
+            && self.is_internal == declare.internal
+    }
+
+    /// Whether nobody may publish to it.
+    pub fn is_internal(&self) -> bool {
+        self.is_internal
+    }
+
+    pub fn is_bound(&self) -> bool {
+        !self.bindings.is_empty()
+    }
+
+    /// Adds a binding, if it isn't there.
+    pub fn bind(&mut self, binding: Binding) -> Result<(), AllocError> {
+        if !self.bindings.iter().any(|own| own.is_same(&binding)) {
+            self.bindings.push(binding)?;
+        }
+        Ok(())
+    }
+
+    /// Removes a binding. It answers whether the exchange goes with its last one.
+    pub fn unbind(&mut self, binding: &Binding) -> bool {
+        let before = self.bindings.len();
+        self.bindings.retain(|own| !own.is_same(binding));
+        self.ends_after(before)
+    }
+
+    /// Removes the bindings of a queue, likewise.
+    pub fn unbind_queue(&mut self, queue: u64) -> bool {
+        let before = self.bindings.len();
+        self.bindings.retain(|own| own.queue != queue);
+        self.ends_after(before)
+    }
+
+    fn ends_after(&self, before: usize) -> bool {
+        self.is_auto_deleted && before > 0 && self.bindings.is_empty()
+    }
+
+    /// The queues to which a message goes, each once.
+    pub fn route(&self, alloc: Global, message: &Content) -> Result<Vec<u64>, AllocError> {
+        let mut queues = Vec::new(alloc);
+        for binding in &self.bindings {
+            if self.takes(alloc, binding, message)? {
+                queues.push(binding.queue)?;
+            }
+        }
+        queues.sort_unstable();
+        queues.dedup();
+        Ok(queues)
+    }
+
+    fn takes(
+        &self,
+        alloc: Global,
+        binding: &Binding,
+        message: &Content,
+    ) -> Result<bool, AllocError> {
+        let key = &message.publish.routing_key;
+        match self.kind {
+            ExchangeType::Direct => Ok(binding.key == *key),
+            ExchangeType::Fanout => Ok(true),
+            ExchangeType::Topic => topic_matches(alloc, &binding.key, key),
+            ExchangeType::Headers => {
+                let headers = message.header.properties.headers.as_ref();
+                headers_match(alloc, &binding.args, headers)
+            }
+        }
+    }
+}
