@@ -1,7 +1,7 @@
 //! All that the broker holds, and what it does with what the ends of its connections tell.
-use crate::channel::Channel;
 use crate::connection::{Asked, Connection};
-use crate::fault::{Done, Fault, Result, refused};
+use crate::exchanges::standard_exchanges;
+use crate::fault::{Done, Fault, Result, close_text};
 use crate::queues::{Place, QueueId, Queues};
 use amqp_core::{AskFault, Server, StreamEnd};
 use amqp_method::{Kind, Message, MethodRef, reply};
@@ -11,7 +11,7 @@ use amqp_typed::queue::AnyMethodView as Queueing;
 use amqp_typed::{AnyMethodView, Typed};
 use amqp_value::ShortStr;
 use example_loop::{Connect, Program};
-use example_store::Exchange;
+use example_store::{Channel, Exchange, Users};
 use mio::net::TcpStream;
 use std::alloc::Global;
 use std::cell::Cell;
@@ -24,9 +24,9 @@ pub const BOUND: usize = 268_435_456;
 #[derive(Drop)]
 pub struct Broker {
     pub alloc: Global,
-    users: Rc<String>,
+    users: Rc<Users>,
     /// How many octets all messages hold.
-    held: Rc<Cell<usize>>,
+    pub held: Rc<Cell<usize>>,
     /// They hold more than `BOUND`, and since then more than three quarters of it.
     is_short: bool,
     pub connections: BTreeMap<usize, Connection>,
@@ -39,22 +39,27 @@ pub struct Broker {
 }
 
 impl Broker {
-    /// A broker with these users: a line `name:password` for each.
-    pub fn new(alloc: Global, users: String) -> Result<Broker> {
-        let mut broker = Broker {
+    pub fn new(alloc: Global, users: Users) -> Result<Broker> {
+        let users = Rc::new(alloc, users)?;
+        let held = Rc::new(alloc, Cell::new(0))?;
+        Ok(Broker {
             alloc,
-            users: Rc::new(alloc, users)?,
-            held: Rc::new(alloc, Cell::new(0))?,
+            users,
+            held,
             is_short: false,
             connections: BTreeMap::new(alloc),
-            exchanges: BTreeMap::new(alloc),
+            exchanges: standard_exchanges(alloc)?,
             queues: BTreeMap::new(alloc),
             names: BTreeMap::new(alloc),
             last_id: 0,
             first: 0,
-        };
-        broker.add_standard_exchanges()?;
-        Ok(broker)
+        })
+    }
+
+    /// Refuses a method: says why, and of what name, if it is about one. The codes are RabbitMQ's.
+    pub fn refuse<T>(&self, code: u16, why: &str, name: &[u8]) -> Result<T> {
+        let text = close_text(self.alloc, code, why, name)?;
+        Err(Fault::Refused(code, text))
     }
 
     pub fn next_id(&mut self) -> Result<u64> {
@@ -83,32 +88,35 @@ impl Broker {
 
     /// Does what a connection asks for. What can't be done ends it.
     fn hear(&mut self, id: usize, octets: &[u8]) -> Done {
-        let (mut rest, mut method) = (octets, Vec::new(self.alloc));
+        let (mut rest, mut payload) = (octets, Vec::new(self.alloc));
         for _ in 0..octets.len() {
-            let Some((taken, asked)) = self.connection(id)?.hear(rest, &mut method) else {
+            let heard = self.connection(id)?.hear(rest, &mut payload);
+            let Some((taken, number, asked)) = heard else {
                 break;
             };
             rest = &rest[taken..];
-            if self.handle(id, asked, &method).is_err() {
+            if self.handle(Place(id, number), asked, &payload).is_err() {
                 self.connection(id)?.link.is_gone = true;
             }
         }
         Ok(())
     }
 
-    fn handle(&mut self, id: usize, asked: Asked, method: &[u8]) -> Done {
+    fn handle(&mut self, at: Place, asked: Asked, payload: &[u8]) -> Done {
         match asked {
-            Asked::Nothing => Ok(()),
-            Asked::Login => self.connection(id)?.login(),
-            Asked::Enter => self.connection(id)?.enter(),
-            Asked::Method(number) => self.tell(Place(id, number), MethodRef::new(method)?),
-            Asked::Content(number) => {
-                let at = Place(id, number);
+            Asked::Nothing => {}
+            Asked::Login => self.connection(at.0)?.login()?,
+            Asked::Enter => self.connection(at.0)?.enter()?,
+            Asked::Open => self.connection(at.0)?.open(at.1)?,
+            Asked::Flow(active) => self.channel(at)?.is_flowing = active,
+            Asked::Method => self.tell(at, MethodRef::new(payload)?)?,
+            Asked::Content => {
                 let done = self.publish(at);
-                self.close_if_refused(at, Kind::BasicPublish, done)
+                self.close_if_refused(at, Kind::BasicPublish, done)?;
             }
-            Asked::Close(number) => self.close_channel(Place(id, number)),
+            Asked::Close => self.close_channel(at)?,
         }
+        Ok(())
     }
 
     /// Does what a method asks for, or closes for it.
@@ -118,9 +126,7 @@ impl Broker {
             AnyMethodView::Queue(method) => self.tell_queue(at, method),
             AnyMethodView::Basic(method) => self.tell_basic(at, method),
             AnyMethodView::Confirm(_) => self.select_confirms(at),
-            AnyMethodView::Tx(_) => {
-                refused(self.alloc, reply::NOT_IMPLEMENTED, "transactions", None)
-            }
+            AnyMethodView::Tx(_) => self.refuse(reply::NOT_IMPLEMENTED, "transactions", b""),
             // no client sends any other
             _ => Ok(()),
         };
@@ -131,7 +137,7 @@ impl Broker {
         match method {
             Exchanging::Declare(declare) => self.declare_exchange(at, declare),
             Exchanging::Delete(delete) => self.delete_exchange(at, delete),
-            _ => refused(self.alloc, reply::NOT_IMPLEMENTED, "bound exchanges", None),
+            _ => self.refuse(reply::NOT_IMPLEMENTED, "bound exchanges", b""),
         }
     }
 
@@ -197,11 +203,21 @@ impl Broker {
 
     /// A channel is gone: its consumers are, and what was sent on it and not acknowledged goes back.
     fn close_channel(&mut self, at: Place) -> Done {
-        if let Some(mut channel) = self.connection(at.0)?.channels.remove(&at.1) {
-            channel.settle_in(&mut self.queues, 0, u64::MAX, true)?;
-            for (id, consumer) in channel.consumers.iter() {
-                self.remove_consumer(consumer.queue, *id);
-            }
+        match self.connection(at.0)?.channels.remove(&at.1) {
+            Some(mut channel) => self.empty_channel(&mut channel),
+            None => Ok(()),
+        }
+    }
+
+    fn empty_channel(&mut self, channel: &mut Channel) -> Done {
+        for (id, consumer) in channel.consumers.iter() {
+            self.remove_consumer(consumer.queue, *id);
+        }
+        for _ in 0..u64::MAX {
+            let Some(delivery) = channel.settle_next(0, u64::MAX) else {
+                break;
+            };
+            self.done_with(delivery, true)?;
         }
         Ok(())
     }
@@ -266,8 +282,7 @@ impl Program for Broker {
     }
 
     fn add(&mut self, _: &impl Connect, number: usize, stream: TcpStream) -> anyhow::Result<()> {
-        let (users, held) = (self.users.clone()?, self.held.clone()?);
-        let connection = Connection::new(self.alloc, users, held, stream)?;
+        let connection = Connection::new(self.alloc, self.users.clone()?, stream)?;
         self.connections.insert(number, connection)?;
         Ok(())
     }
@@ -282,10 +297,13 @@ impl Program for Broker {
     fn turn(&mut self, _: &impl Print, ticks: bool, room: &mut [u8]) -> anyhow::Result<()> {
         let bound = if self.is_short { BOUND / 4 * 3 } else { BOUND };
         self.is_short = self.held.get() > bound;
-        let mut next = self.connection_from(0);
-        while let Some(id) = next {
+        let mut next = 0;
+        for _ in 0..self.connections.len() {
+            let Some(id) = self.connection_from(next) else {
+                break;
+            };
             drop(self.serve(id, ticks, room));
-            next = id.checked_add(1).and_then(|id| self.connection_from(id));
+            next = id.saturating_add(1);
         }
         self.deliver();
         Ok(())

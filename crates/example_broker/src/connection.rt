@@ -2,15 +2,15 @@
 ghost use Rattle.std.specs.Prelude.{◌≤◌, IfSome, length};
 
 use crate::broker::BOUND;
-use crate::channel::{Channel, Delivery};
 use crate::fault::{Done, Result};
 use crate::queues::Queue;
 use amqp_core::{AskFault, EventRef, Server, StreamEnd};
-use amqp_method::{Kind, MethodRef, reply};
+use amqp_method::{Kind, MethodRef, OutOfMemory, reply};
 use amqp_typed::TypedRef;
 use amqp_typed::connection::{OpenRef, StartOkRef};
-use amqp_value::{ShortStr, Value, read_table};
+use amqp_value::{ShortStr, Value};
 use example_loop::{FULL, Link, server_end};
+use example_store::{Channel, Delivery, Users};
 use mio::net::TcpStream;
 use std::alloc::Global;
 use std::cell::Cell;
@@ -22,29 +22,31 @@ use std::rc::Rc;
 const ABILITIES: &str =
     "publisher_confirms basic.nack per_consumer_qos connection.blocked authentication_failure_close";
 
-/// What a connection asks of the broker, once its end can be answered.
+/// What a frame on a channel asks of the broker, once the end can be answered.
 #[derive(Clone, Copy)]
 pub enum Asked {
     Nothing,
     Login,
     Enter,
-    /// By a method on a channel, which is copied.
-    Method(u16),
+    Open,
+    Flow(bool),
+    /// By a method, whose payload is kept.
+    Method,
     /// By a content that is whole.
-    Content(u16),
-    Close(u16),
+    Content,
+    Close,
 }
+
+pub type Heard = std::result::Result<Asked, OutOfMemory>;
 
 #[derive(Drop)]
 pub struct Connection {
     alloc: Global,
-    users: Rc<String>,
+    users: Rc<Users>,
     pub link: Link<Server>,
     pub channels: BTreeMap<u16, Channel>,
     /// How many octets the contents have that aren't whole.
     unfinished: Rc<Cell<usize>>,
-    /// How many octets all messages of the broker hold.
-    held: Rc<Cell<usize>>,
     hears_blocked: bool,
     /// The client published since memory is short, or since its last turn.
     publishes: bool,
@@ -53,12 +55,7 @@ pub struct Connection {
 }
 
 impl Connection {
-    pub fn new(
-        alloc: Global,
-        users: Rc<String>,
-        held: Rc<Cell<usize>>,
-        stream: TcpStream,
-    ) -> anyhow::Result<Connection> {
+    pub fn new(alloc: Global, users: Rc<Users>, stream: TcpStream) -> anyhow::Result<Connection> {
         let unfinished = Rc::new(alloc, Cell::new(0))?;
         let end = server_end(alloc, "example_broker", ABILITIES)?;
         Ok(Connection {
@@ -67,7 +64,6 @@ impl Connection {
             link: Link::new(alloc, stream, end),
             channels: BTreeMap::new(alloc),
             unfinished,
-            held,
             hears_blocked: false,
             publishes: false,
             is_blocked: false,
@@ -78,40 +74,44 @@ impl Connection {
         &mut self.link.end.inner
     }
 
-    /// Takes octets up to the end of a frame, and answers how many, and what the frame asks of the broker. A method is
-    /// copied as it lies. None: no more are taken.
-    pub fn hear(&mut self, octets: &[u8], method: &mut Vec<u8>) -> Option<(usize, Asked)>
+    /// Takes octets up to the end of a frame, and answers how many, and what the frame asks on which channel. The payload
+    /// of a method is copied, and a part of a content goes to its channel. None: no more are taken.
+    pub fn hear(&mut self, octets: &[u8], payload: &mut Vec<u8>) -> Option<(usize, u16, Asked)>
         ensures { IfSome result (λ heard. heard.0 ≤ length octets.now) }
     {
         let (taken, heard) = self.link.hear(octets)?;
         let Some(heard) = heard else {
-            return Some((taken, Asked::Nothing));
+            return Some((taken, 0, Asked::Nothing));
         };
         let number = heard.number;
-        let (channels, event) = (&mut self.channels, heard.event);
-        let asked = match event {
+        let asked = match heard.event {
             EventRef::LoginAsked => Ok(Asked::Login),
             EventRef::OpenAsked => Ok(Asked::Enter),
-            EventRef::Opened(_) => open(self.alloc, channels, number),
-            EventRef::Method(_, said) => keep(method, said, number),
-            EventRef::ChannelClosed(..) | EventRef::Discarded(_) => Ok(Asked::Close(number)),
-            _ => match channels.get_mut(&number) {
-                Some(channel) => channel.hear(number, event, &self.unfinished, &self.held),
+            EventRef::Opened(_) => Ok(Asked::Open),
+            EventRef::Flow(_, active) => Ok(Asked::Flow(active)),
+            EventRef::ChannelClosed(..) | EventRef::Discarded(_) => Ok(Asked::Close),
+            EventRef::Method(_, method) => keep(payload, method),
+            event => match self.channels.get_mut(&number) {
+                Some(channel) => gather(channel, event, &self.unfinished),
                 None => Ok(Asked::Nothing),
             },
         };
-        let Ok(asked) = asked else {
-            self.link.is_gone = true;
-            return Some((taken, Asked::Nothing));
-        };
-        self.publishes |= matches!(asked, Asked::Content(_));
-        Some((taken, asked))
+        self.link.is_gone |= asked.is_err();
+        let asked = asked.unwrap_or(Asked::Nothing);
+        self.publishes |= matches!(asked, Asked::Content);
+        Some((taken, number, asked))
+    }
+
+    /// A channel opens.
+    pub fn open(&mut self, number: u16) -> Done {
+        self.channels.insert(number, Channel::new(self.alloc))?;
+        Ok(())
     }
 
     pub fn login(&mut self) -> Done {
         let start = self.link.end.inner.heard(Kind::ConnectionStartOk);
         let start = start.and_then(StartOkRef::from_ref);
-        let is_user = start.and_then(|start| is_allowed(self.alloc, self.users.as_str(), &start));
+        let is_user = start.and_then(|start| self.users.allow(self.alloc, &start));
         let abilities = start.and_then(StartOkRef::capabilities);
         let hears = abilities.and_then(|able| able.get(b"connection.blocked"));
         self.hears_blocked = hears.and_then(Value::as_bool) == Some(true);
@@ -217,36 +217,32 @@ impl Connection {
     }
 }
 
-fn open(alloc: Global, channels: &mut BTreeMap<u16, Channel>, number: u16) -> Result<Asked> {
-    channels.insert(number, Channel::new(alloc)?)?;
-    Ok(Asked::Nothing)
+fn keep(payload: &mut Vec<u8>, method: MethodRef<'_>) -> Heard {
+    payload.clear();
+    payload.extend_from_slice(method.payload())?;
+    Ok(Asked::Method)
 }
 
-fn keep(method: &mut Vec<u8>, said: MethodRef<'_>, number: u16) -> Result<Asked> {
-    method.clear();
-    method.extend_from_slice(said.payload())?;
-    Ok(Asked::Method(number))
-}
-
-/// Whether a client may log in as it says. None: it says nothing that can be read.
-fn is_allowed(alloc: Global, users: &str, start: &StartOkRef<'_>) -> Option<bool> {
-    if start.mechanism.as_bytes() == b"PLAIN".as_slice() {
-        // whom to act as, which isn't looked at, the name and the password, with zeros between
-        let mut parts = start.response.splitn(3, |octet| *octet == 0);
-        parts.next()?;
-        return Some(has_user(users, parts.next()?, parts.next()?));
-    }
-    // AMQPLAIN: a table without its length
-    let length = u32::try_from(start.response.len()).ok()?;
-    let mut octets = Vec::from_slice(alloc, &length.to_be_bytes()).ok()?;
-    octets.extend_from_slice(start.response).ok()?;
-    let (table, _) = read_table(alloc, &octets).ok()?;
-    let (name, password) = (table.get(b"LOGIN")?, table.get(b"PASSWORD")?);
-    Some(has_user(users, name.as_bytes()?, password.as_bytes()?))
-}
-
-/// Whether a line of the users is `name:password`.
-fn has_user(users: &str, name: &[u8], password: &[u8]) -> bool {
-    let mut users = users.lines().filter_map(|line| line.split_once(':'));
-    users.any(|user| user.0.as_bytes() == name && user.1.as_bytes() == password)
+/// A frame of a content comes to its channel. Until the content is whole its octets are counted among these.
+fn gather(channel: &mut Channel, event: EventRef<'_>, octets: &Rc<Cell<usize>>) -> Heard {
+    let is_whole = match event {
+        EventRef::Begins(_, method) => {
+            channel.begin(method, octets)?;
+            false
+        }
+        EventRef::Heads(_, header, is_whole) => {
+            channel.head(header)?;
+            is_whole
+        }
+        EventRef::Part(_, part, is_whole) => {
+            channel.add(part)?;
+            is_whole
+        }
+        _ => false,
+    };
+    Ok(if is_whole {
+        Asked::Content
+    } else {
+        Asked::Nothing
+    })
 }

@@ -1,11 +1,13 @@
 //! Exchanges: declared, deleted, bound.
 use crate::broker::Broker;
-use crate::fault::{Done, Result, refused};
+use crate::fault::{Done, Result};
 use crate::queues::{Place, QueueId};
 use amqp_method::reply;
 use amqp_typed::{exchange, queue};
 use amqp_value::{ShortStr, TableRef};
 use example_store::{Binding, Content, Exchange, ExchangeType};
+use std::alloc::Global;
+use std::collections::BTreeMap;
 
 /// The exchanges that are there from the start, with their types.
 const STANDARD: [(&[u8], ExchangeType); 5] = [
@@ -16,29 +18,22 @@ const STANDARD: [(&[u8], ExchangeType); 5] = [
     (b"amq.match", ExchangeType::Headers),
 ];
 
+pub fn standard_exchanges(alloc: Global) -> Result<BTreeMap<Vec<u8>, Exchange>> {
+    let mut exchanges = BTreeMap::new(alloc);
+    for (name, kind) in STANDARD {
+        exchanges.insert(
+            Vec::from_slice(alloc, name)?,
+            Exchange::standard(alloc, kind),
+        )?;
+    }
+    Ok(exchanges)
+}
+
 impl Broker {
-    pub fn add_standard_exchanges(&mut self) -> Done {
-        for (name, kind) in STANDARD {
-            self.add_exchange(name, Exchange::standard(self.alloc, kind))?;
-        }
-        Ok(())
-    }
-
-    fn add_exchange(&mut self, name: &[u8], exchange: Exchange) -> Done {
-        let name = Vec::from_slice(self.alloc, name)?;
-        self.exchanges.insert(name, exchange)?;
-        Ok(())
-    }
-
     /// Clients neither make nor delete what has no name, or one that begins so.
     pub fn check_not_reserved(&self, name: &[u8]) -> Done {
         if name.is_empty() || name.starts_with(b"amq.") {
-            return refused(
-                self.alloc,
-                reply::ACCESS_REFUSED,
-                "reserved name",
-                Some(name),
-            );
+            return self.refuse(reply::ACCESS_REFUSED, "reserved name", name);
         }
         Ok(())
     }
@@ -46,9 +41,9 @@ impl Broker {
     /// Why there is no exchange of a name. Nothing is declared or bound at the one without a name.
     fn no_exchange<T>(&self, name: &[u8]) -> Result<T> {
         if name.is_empty() {
-            return refused(self.alloc, reply::ACCESS_REFUSED, "default exchange", None);
+            return self.refuse(reply::ACCESS_REFUSED, "default exchange", b"");
         }
-        refused(self.alloc, reply::NOT_FOUND, "no exchange", Some(name))
+        self.refuse(reply::NOT_FOUND, "no exchange", name)
     }
 
     /// The queues to which a message goes, each once.
@@ -60,8 +55,7 @@ impl Broker {
         }
         match self.exchanges.get(name) {
             Some(exchange) if exchange.is_internal() => {
-                let why = "internal exchange";
-                refused(self.alloc, reply::ACCESS_REFUSED, why, Some(name))
+                self.refuse(reply::ACCESS_REFUSED, "internal exchange", name)
             }
             Some(exchange) => Ok(exchange.route(self.alloc, message)?),
             None => self.no_exchange(name),
@@ -74,8 +68,11 @@ impl Broker {
             Some(_) if declare.passive => {}
             Some(own) if own.is_as(declare) => {}
             Some(_) => {
-                let why = "declared otherwise: exchange";
-                return refused(self.alloc, reply::PRECONDITION_FAILED, why, Some(name));
+                return self.refuse(
+                    reply::PRECONDITION_FAILED,
+                    "declared otherwise: exchange",
+                    name,
+                );
             }
             None if declare.passive => return self.no_exchange(name),
             None => self.make_exchange(declare)?,
@@ -86,11 +83,13 @@ impl Broker {
     fn make_exchange(&mut self, declare: exchange::DeclareView<'_>) -> Done {
         self.check_not_reserved(declare.exchange)?;
         let Some(kind) = ExchangeType::named(declare.type_name) else {
-            let (why, name) = ("unknown exchange type", Some(declare.type_name));
-            return refused(self.alloc, reply::COMMAND_INVALID, why, name);
+            let (why, name) = ("unknown exchange type", declare.type_name);
+            return self.refuse(reply::COMMAND_INVALID, why, name);
         };
+        let name = Vec::from_slice(self.alloc, declare.exchange)?;
         let exchange = Exchange::declared(self.alloc, kind, declare);
-        self.add_exchange(declare.exchange, exchange)
+        self.exchanges.insert(name, exchange)?;
+        Ok(())
     }
 
     pub fn delete_exchange(&mut self, at: Place, delete: exchange::DeleteView<'_>) -> Done {
@@ -98,7 +97,7 @@ impl Broker {
         self.check_not_reserved(name)?;
         let exchange = self.exchanges.get(name);
         if delete.if_unused && exchange.is_some_and(Exchange::is_bound) {
-            return refused(self.alloc, reply::PRECONDITION_FAILED, "in use", Some(name));
+            return self.refuse(reply::PRECONDITION_FAILED, "in use", name);
         }
         self.exchanges.remove(name);
         self.send(at, exchange::DeleteOk::new())
@@ -119,22 +118,33 @@ impl Broker {
 
     pub fn bind_queue(&mut self, at: Place, bind: queue::BindView<'_>) -> Done {
         let binding = self.bound(at, bind.queue, bind.routing_key, bind.arguments)?;
-        match self.exchanges.get_mut(bind.exchange) {
-            Some(exchange) => exchange.bind(binding)?,
-            None => return self.no_exchange(bind.exchange),
-        }
+        self.add_binding(bind.exchange, binding)?;
         self.send(at, queue::BindOk::new())
+    }
+
+    fn add_binding(&mut self, name: &[u8], binding: Binding) -> Done {
+        match self.exchanges.get_mut(name) {
+            Some(exchange) => Ok(exchange.bind(binding)?),
+            None => self.no_exchange(name),
+        }
     }
 
     pub fn unbind_queue(&mut self, at: Place, unbind: queue::UnbindView<'_>) -> Done {
         let binding = self.bound(at, unbind.queue, unbind.routing_key, unbind.arguments)?;
-        let is_over = match self.exchanges.get_mut(unbind.exchange) {
-            Some(exchange) => exchange.unbind(&binding),
-            None => return self.no_exchange(unbind.exchange),
-        };
-        if is_over {
-            self.exchanges.remove(unbind.exchange);
-        }
+        self.remove_binding(unbind.exchange, &binding)?;
         self.send(at, queue::UnbindOk::new())
+    }
+
+    fn remove_binding(&mut self, name: &[u8], binding: &Binding) -> Done {
+        match self
+            .exchanges
+            .get_mut(name)
+            .map(|exchange| exchange.unbind(binding))
+        {
+            Some(true) => drop(self.exchanges.remove(name)),
+            Some(false) => {}
+            None => return self.no_exchange(name),
+        }
+        Ok(())
     }
 }

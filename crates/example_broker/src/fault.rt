@@ -22,20 +22,14 @@ impl<E: Error + Drop> From<E> for Fault {
     }
 }
 
-/// Refuses a method, and says why and of what name. The codes are RabbitMQ's.
-pub fn refused<T>(alloc: Global, code: u16, why: &str, name: Option<&[u8]>) -> Result<T> {
-    Err(Fault::Refused(code, text_of(alloc, code, why, name)?))
-}
-
-/// As much of the text of a close as that takes.
-fn text_of(alloc: Global, code: u16, why: &str, name: Option<&[u8]>) -> Result<ShortStr> {
+/// As much of the text of a close as that takes: why, and of what name, if it is about one.
+pub fn close_text(alloc: Global, code: u16, why: &str, name: &[u8]) -> Result<ShortStr> {
     let kind = reply::reply_name(code).unwrap_or("refused");
-    let text = match name {
-        Some(name) => {
-            let name = ShortStr::new(alloc, name)?;
-            format!(in alloc; "{kind} - {why} {name:?}")?
-        }
-        None => format!(in alloc; "{kind} - {why}")?,
+    let name = ShortStr::new(alloc, name)?;
+    let text = if name.is_empty() {
+        format!(in alloc; "{kind} - {why}")?
+    } else {
+        format!(in alloc; "{kind} - {why} {name:?}")?
     };
     let octets = text.as_bytes();
     Ok(ShortStr::new(alloc, &octets[..octets.len().min(255)])?)

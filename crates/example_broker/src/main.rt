@@ -2,7 +2,6 @@
 #![tactic(auto)]
 
 mod broker;
-mod channel;
 mod connection;
 mod exchanges;
 mod fault;
@@ -11,6 +10,7 @@ mod queues;
 
 use crate::broker::Broker;
 use example_loop::serve;
+use example_store::Users;
 use std::process::ExitCode;
 use std::{env, fs};
 
@@ -40,9 +40,9 @@ fn main(rt: HostRuntime) -> anyhow::Result<ExitCode> {
             return Ok(ExitCode::from(2));
         }
     };
-    if !users.as_str().lines().all(|line| line.contains(':')) {
+    let Some(users) = Users::read(users) else {
         anyhow::bail!("a line of the users is not name:password");
-    }
+    };
     let Ok(mut broker) = Broker::new(alloc, users) else {
         anyhow::bail!("out of memory");
     };

@@ -1,27 +1,33 @@
 //! Messages: published, consumed, fetched, acknowledged.
 use crate::broker::{BOUND, Broker};
-use crate::channel::Consumer;
-use crate::fault::{Done, Fault, Result, refused};
-use crate::queues::Place;
+use crate::fault::{Done, Fault, Result};
+use crate::queues::{Place, QueueId};
 use amqp_core::AskFault;
 use amqp_method::reply;
 use amqp_typed::{basic, confirm};
 use amqp_value::ShortStr;
-use example_store::{Content, Credit};
+use example_store::{Consumer, Content, Credit, Delivery};
 use std::rc::Rc;
 
 impl Broker {
     /// Hands a message that is whole to the queues that it is bound for, and confirms it if the client asked for confirms.
     pub fn publish(&mut self, at: Place) -> Done {
-        let content = self.channel(at)?.coming.take().ok_or(Fault::GivenUp)?;
-        let content = Rc::new(self.alloc, content)?;
+        let content = self.take_content(at)?;
         self.hand_out(at, &content)?;
         self.confirm(at)
     }
 
+    fn take_content(&mut self, at: Place) -> Result<Rc<Content>> {
+        let held = self.held.clone()?;
+        let content = self.channel(at)?.coming.take();
+        let mut content = content.ok_or(Fault::GivenUp)?;
+        content.count_among(held);
+        Ok(Rc::new(self.alloc, content)?)
+    }
+
     fn hand_out(&mut self, at: Place, content: &Rc<Content>) -> Done {
         if content.publish.immediate {
-            return refused(self.alloc, reply::NOT_IMPLEMENTED, "immediate=true", None);
+            return self.refuse(reply::NOT_IMPLEMENTED, "immediate=true", b"");
         }
         let queues = self.route(content)?;
         if queues.is_empty() && content.publish.mandatory {
@@ -46,8 +52,11 @@ impl Broker {
 
     fn send_back(&mut self, at: Place, content: &Content) -> Done {
         if !self.channel(at)?.is_flowing {
-            let why = "a return is due while the channel is paused";
-            return refused(self.alloc, reply::PRECONDITION_FAILED, why, None);
+            return self.refuse(
+                reply::PRECONDITION_FAILED,
+                "a return is due while the channel is paused",
+                b"",
+            );
         }
         let method = content.returned()?;
         let (properties, body) = (&content.header.properties, &content.body);
@@ -63,7 +72,7 @@ impl Broker {
     /// Limits each consumer that is added from now on, or the whole channel.
     pub fn set_qos(&mut self, at: Place, qos: basic::Qos) -> Done {
         if qos.prefetch_size != 0 {
-            return refused(self.alloc, reply::NOT_IMPLEMENTED, "prefetch_size!=0", None);
+            return self.refuse(reply::NOT_IMPLEMENTED, "prefetch_size!=0", b"");
         }
         let channel = self.channel(at)?;
         if qos.global {
@@ -76,26 +85,14 @@ impl Broker {
     }
 
     pub fn consume(&mut self, at: Place, consume: basic::ConsumeView<'_>) -> Done {
-        let tag = self.consumer_tag(consume.consumer_tag)?;
-        let ok = basic::ConsumeOk::new(tag.copy()?);
-        self.add_consumer(at, consume, tag)?;
-        self.send(at, ok)
-    }
-
-    fn consumer_tag(&mut self, tag: &[u8]) -> Result<ShortStr> {
-        if tag.is_empty() {
-            return self.made_up_name("amq.ctag");
-        }
-        Ok(ShortStr::new(self.alloc, tag)?)
-    }
-
-    fn add_consumer(&mut self, at: Place, consume: basic::ConsumeView<'_>, tag: ShortStr) -> Done {
         let queue = self.consumed(at, consume)?;
-        if self.channel(at)?.consumer_with(tag.as_bytes()).is_some() {
-            let (why, tag) = ("consumer tag in use:", Some(tag.as_bytes()));
-            return refused(self.alloc, reply::NOT_ALLOWED, why, tag);
-        }
         let id = self.next_id()?;
+        let tag = if consume.consumer_tag.is_empty() {
+            self.made_up_name("amq.ctag")?
+        } else {
+            ShortStr::new(self.alloc, consume.consumer_tag)?
+        };
+        let ok = basic::ConsumeOk::new(tag.copy()?);
         let channel = self.channel(at)?;
         let consumer = Consumer {
             tag,
@@ -104,19 +101,29 @@ impl Broker {
             credit: Credit::new(channel.prefetch),
         };
         channel.consumers.insert(id, consumer)?;
+        self.seat(at, id, queue, consume.exclusive)?;
+        self.send(at, ok)
+    }
+
+    /// A queue has one more consumer.
+    fn seat(&mut self, at: Place, id: u64, queue: QueueId, is_exclusive: bool) -> Done {
         let queue = self.queues.get_mut(&queue).ok_or(AskFault::NotOpen)?;
         queue.consumers.push_back((at, id))?;
-        queue.is_taken = consume.exclusive;
+        queue.is_taken = is_exclusive;
         Ok(())
     }
 
     /// The queue that is to be consumed, if another consumer may have it.
-    fn consumed(&self, at: Place, consume: basic::ConsumeView<'_>) -> Result<u64> {
+    fn consumed(&mut self, at: Place, consume: basic::ConsumeView<'_>) -> Result<QueueId> {
         let queue = self.queue(at, consume.queue)?;
         if queue.is_taken || (consume.exclusive && !queue.consumers.is_empty()) {
-            return refused(self.alloc, reply::ACCESS_REFUSED, "in exclusive use", None);
+            return self.refuse(reply::ACCESS_REFUSED, "in exclusive use", b"");
         }
-        Ok(queue.id)
+        let (id, tag) = (queue.id, consume.consumer_tag);
+        if self.channel(at)?.consumer_with(tag).is_some() {
+            return self.refuse(reply::NOT_ALLOWED, "consumer tag in use:", tag);
+        }
+        Ok(id)
     }
 
     /// Removes a consumer. What it was sent still waits to be acknowledged.
@@ -133,16 +140,11 @@ impl Broker {
 
     pub fn get(&mut self, at: Place, get: basic::GetView<'_>) -> Done {
         let id = self.queue(at, get.queue)?.id;
+        if self.end(at)?.waiting_in_all() > BOUND {
+            return self.refuse(reply::RESOURCE_ERROR, "too much is not read", b"");
+        }
         let queue = self.queues.get_mut(&id).ok_or(AskFault::NotOpen)?;
         let connection = self.connections.get_mut(&at.0).ok_or(AskFault::NotOpen)?;
-        if connection.end().waiting_in_all() > BOUND {
-            return refused(
-                self.alloc,
-                reply::RESOURCE_ERROR,
-                "too much is not read",
-                None,
-            );
-        }
         if connection.send_first(queue, at.1, None, get.no_ack)? {
             return Ok(());
         }
@@ -151,20 +153,32 @@ impl Broker {
 
     /// Settles one message, or with `multiple` all up to it, where 0 stands for the last.
     pub fn settle(&mut self, at: Place, tag: u64, multiple: bool, requeue: bool) -> Done {
-        let connection = self.connections.get_mut(&at.0).ok_or(AskFault::NotOpen)?;
-        let channel = connection.channel(at.1)?;
         let last = if multiple && tag == 0 { u64::MAX } else { tag };
-        if last == tag && !channel.unacked.contains_key(&tag) {
-            let why = "unknown delivery tag";
-            return refused(self.alloc, reply::PRECONDITION_FAILED, why, None);
+        if last == tag && !self.channel(at)?.awaits(tag) {
+            return self.refuse(reply::PRECONDITION_FAILED, "unknown delivery tag", b"");
         }
         let first = if multiple { 0 } else { tag };
-        channel.settle_in(&mut self.queues, first, last, requeue)
+        for _ in 0..u64::MAX {
+            let Some(delivery) = self.channel(at)?.settle_next(first, last) else {
+                break;
+            };
+            self.done_with(delivery, requeue)?;
+        }
+        Ok(())
+    }
+
+    /// A message that was sent waits no more: it goes back to its queue, or is done with.
+    pub fn done_with(&mut self, delivery: Delivery, requeue: bool) -> Done {
+        let queue = self.queues.get_mut(&delivery.queue).filter(|_| requeue);
+        if let Some(queue) = queue {
+            queue.messages.put_back(delivery.place, delivery.content)?;
+        }
+        Ok(())
     }
 
     pub fn recover(&mut self, at: Place, requeue: bool) -> Done {
         if !requeue {
-            return refused(self.alloc, reply::NOT_IMPLEMENTED, "requeue=false", None);
+            return self.refuse(reply::NOT_IMPLEMENTED, "requeue=false", b"");
         }
         self.settle(at, 0, true, true)?;
         self.send(at, basic::RecoverOk::new())

@@ -1,7 +1,7 @@
 //! Queues: how each was declared, its messages, and who consumes them.
 use crate::broker::Broker;
 use crate::connection::Connection;
-use crate::fault::{Done, Fault, Result, refused};
+use crate::fault::{Done, Fault, Result};
 use amqp_method::reply;
 use amqp_typed::queue;
 use amqp_value::ShortStr;
@@ -69,7 +69,7 @@ impl Broker {
         let connection = self.connections.get(&at.0);
         let channel = connection.and_then(|connection| connection.channels.get(&at.1));
         match channel {
-            Some(channel) if name.is_empty() => channel.last_queue.as_bytes(),
+            Some(channel) if name.is_empty() => &channel.last_queue,
             _ => name,
         }
     }
@@ -78,7 +78,7 @@ impl Broker {
         let name = self.queue_name(at, name);
         let id = self.names.get(name);
         let Some(queue) = id.and_then(|id| self.queues.get(id)) else {
-            return refused(self.alloc, reply::NOT_FOUND, "no queue", Some(name));
+            return self.refuse(reply::NOT_FOUND, "no queue", name);
         };
         if queue.owner.is_some_and(|owner| owner != at.0) {
             return self.locked(name);
@@ -87,8 +87,7 @@ impl Broker {
     }
 
     fn locked<T>(&self, name: &[u8]) -> Result<T> {
-        let why = "another has queue";
-        refused(self.alloc, reply::RESOURCE_LOCKED, why, Some(name))
+        self.refuse(reply::RESOURCE_LOCKED, "another has queue", name)
     }
 
     pub fn declare_queue(&mut self, at: Place, declare: queue::DeclareView<'_>) -> Done {
@@ -109,25 +108,30 @@ impl Broker {
         declare: queue::DeclareView<'_>,
         name: &ShortStr,
     ) -> Result<(u32, u32)> {
-        if declare.passive || self.names.contains_key(name.as_bytes()) {
-            self.check_declared(at, declare, name)?;
-        } else {
-            if !declare.queue.is_empty() {
-                self.check_not_reserved(name.as_bytes())?;
-            }
+        let name = name.as_bytes();
+        if !declare.passive && !self.names.contains_key(name) {
             self.add_queue(at, declare, name)?;
         }
-        self.channel(at)?.last_queue = name.copy()?;
-        let queue = self.queue(at, name.as_bytes())?;
+        let queue = self.queue(at, name)?;
+        if !declare.passive && queue.owner.is_some() != declare.exclusive {
+            return self.locked(name);
+        } else if !declare.passive && !queue.is_as(declare) {
+            return self.refuse(reply::PRECONDITION_FAILED, "declared otherwise:", name);
+        }
         let consumers = u32::try_from(queue.consumers.len()).unwrap_or(u32::MAX);
-        Ok((queue.messages.count(), consumers))
+        let counts = (queue.messages.count(), consumers);
+        self.channel(at)?.last_queue = Vec::from_slice(self.alloc, name)?;
+        Ok(counts)
     }
 
-    fn add_queue(&mut self, at: Place, declare: queue::DeclareView<'_>, name: &ShortStr) -> Done {
+    fn add_queue(&mut self, at: Place, declare: queue::DeclareView<'_>, name: &[u8]) -> Done {
+        if !declare.queue.is_empty() {
+            self.check_not_reserved(name)?;
+        }
         let id = self.next_id()?;
         let queue = Queue {
             id,
-            name: name.copy()?,
+            name: ShortStr::new(self.alloc, name)?,
             owner: declare.exclusive.then_some(at.0),
             is_durable: declare.durable && !declare.exclusive,
             is_auto_deleted: declare.auto_delete,
@@ -136,20 +140,9 @@ impl Broker {
             consumers: VecDeque::new(self.alloc),
         };
         self.queues.insert(id, queue)?;
-        let name = Vec::from_slice(self.alloc, name.as_bytes())?;
+        let name = Vec::from_slice(self.alloc, name)?;
         self.names.insert(name, id)?;
         Ok(())
-    }
-
-    fn check_declared(&self, at: Place, declare: queue::DeclareView<'_>, name: &ShortStr) -> Done {
-        let own = self.queue(at, name.as_bytes())?;
-        if declare.passive || (own.is_as(declare) && own.owner.is_some() == declare.exclusive) {
-            return Ok(());
-        } else if own.owner.is_some() != declare.exclusive {
-            return self.locked(name.as_bytes());
-        }
-        let (why, name) = ("declared otherwise:", Some(name.as_bytes()));
-        refused(self.alloc, reply::PRECONDITION_FAILED, why, name)
     }
 
     pub fn delete_queue(&mut self, at: Place, delete: queue::DeleteView<'_>) -> Done {
@@ -160,8 +153,7 @@ impl Broker {
         let queue = self.queue(at, name)?;
         let (id, ready) = (queue.id, queue.messages.count());
         if (delete.if_unused && !queue.consumers.is_empty()) || (delete.if_empty && ready > 0) {
-            let why = "in use: queue";
-            return refused(self.alloc, reply::PRECONDITION_FAILED, why, Some(name));
+            return self.refuse(reply::PRECONDITION_FAILED, "in use: queue", name);
         }
         self.remove_queue(id);
         self.send(at, queue::DeleteOk::new(ready))

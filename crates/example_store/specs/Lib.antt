@@ -1,4 +1,5 @@
 pub mod Credits
 pub mod Ready
+pub mod Standing
 pub mod Topic
 pub mod TopicRows

@@ -76,9 +76,8 @@ impl Content {
     }
 
     /// Its octets are counted among these from now on.
-    pub fn count_among(&mut self, octets: &Rc<Cell<usize>>) -> Result<(), AllocError> {
-        self.share = Share::new(self.share.octets, octets.clone()?);
-        Ok(())
+    pub fn count_among(&mut self, octets: Rc<Cell<usize>>) {
+        self.share = Share::new(self.share.octets, octets);
     }
 }
 

@@ -2,7 +2,7 @@
 use Rattle.std.specs.Prelude.{ℕ, ◌≡◌, Bool, if◌then◌else◌, ◌==◌, is_some}
 use Rattle.std.specs.Ordering.{nat_cmp}
 use Rattle.std.specs.BTreeMap.{get}
-use Rattle.example_broker.specs.declared.channel.Channel.{Channel}
+use Rattle.example_store.specs.declared.channel.Channel.{Channel}
 
 -- the message under the tag was sent, and waits to be acknowledged
 abbrev is_unacked : Channel → ℕ → Bool

@@ -1,17 +1,14 @@
 //! A channel: its consumers, the messages that were sent on it and wait to be acknowledged, and the content that is coming.
 ghost use Rattle.std.specs.Prelude.{true, false, OnOk};
-ghost use Rattle.example_broker.specs.Standing.{Awaits};
+ghost use Rattle.example_store.specs.Standing.{Awaits};
 
-use crate::connection::Asked;
-use crate::fault::{Done, Result};
-use crate::queues::{QueueId, Queues};
-use amqp_core::EventRef;
-use amqp_method::{HeaderRef, MethodRef};
+use crate::credit::Credit;
+use crate::messages::Content;
+use amqp_method::{HeaderRef, MethodRef, OutOfMemory};
 use amqp_typed::TypedView;
 use amqp_typed::basic::PublishView;
 use amqp_value::ShortStr;
-use example_store::{Content, Credit};
-use std::alloc::Global;
+use std::alloc::{AllocError, Global};
 use std::cell::Cell;
 use std::collections::BTreeMap;
 use std::rc::Rc;
@@ -19,14 +16,16 @@ use std::rc::Rc;
 #[derive(Drop)]
 pub struct Consumer {
     pub tag: ShortStr,
-    pub queue: QueueId,
+    /// The number of its queue.
+    pub queue: u64,
     pub no_ack: bool,
     pub credit: Credit,
 }
 
+/// A message that was sent: of which queue, and its place there.
 #[derive(Drop)]
 pub struct Delivery {
-    pub queue: QueueId,
+    pub queue: u64,
     pub place: u64,
     pub content: Rc<Content>,
     /// None for one that basic.get took.
@@ -38,7 +37,7 @@ pub struct Channel {
     alloc: Global,
     pub consumers: BTreeMap<u64, Consumer>,
     /// by their delivery tags
-    pub unacked: BTreeMap<u64, Delivery>,
+    unacked: BTreeMap<u64, Delivery>,
     pub last_tag: u64,
     /// The limit of each consumer that is added from now on.
     pub prefetch: u16,
@@ -46,15 +45,16 @@ pub struct Channel {
     pub credit: Credit,
     /// How many messages were published since the client asked for confirms, if it did.
     pub published: Option<u64>,
-    pub last_queue: ShortStr,
+    /// The name of the queue that was declared last.
+    pub last_queue: Vec<u8>,
     pub is_flowing: bool,
     /// What has come of the content that the client publishes, until it is whole and taken.
     pub coming: Option<Content>,
 }
 
 impl Channel {
-    pub fn new(alloc: Global) -> Result<Channel> {
-        Ok(Channel {
+    pub fn new(alloc: Global) -> Channel {
+        Channel {
             alloc,
             consumers: BTreeMap::new(alloc),
             unacked: BTreeMap::new(alloc),
@@ -62,59 +62,39 @@ impl Channel {
             prefetch: 0,
             credit: Credit::new(0),
             published: None,
-            last_queue: ShortStr::text(alloc, "")?,
+            last_queue: Vec::new(alloc),
             is_flowing: true,
             coming: None,
-        })
+        }
     }
 
-    /// What is said on it, beside a method alone: a frame of a content, or a flow.
-    pub fn hear(
+    /// A content begins. Its octets are counted among these.
+    pub fn begin(
         &mut self,
-        number: u16,
-        event: EventRef<'_>,
-        unfinished: &Rc<Cell<usize>>,
-        held: &Rc<Cell<usize>>,
-    ) -> Result<Asked> {
-        let is_whole = match event {
-            EventRef::Begins(_, method) => self.begin(method, unfinished)?,
-            EventRef::Heads(_, header, whole) => self.head(header, whole)?,
-            EventRef::Part(_, part, whole) => self.add(part, whole)?,
-            EventRef::Flow(_, active) => {
-                self.is_flowing = active;
-                false
-            }
-            _ => false,
-        };
-        if !is_whole {
-            return Ok(Asked::Nothing);
-        }
-        if let Some(content) = &mut self.coming {
-            content.count_among(held)?;
-        }
-        Ok(Asked::Content(number))
-    }
-
-    fn begin(&mut self, method: MethodRef<'_>, unfinished: &Rc<Cell<usize>>) -> Result<bool> {
+        method: MethodRef<'_>,
+        octets: &Rc<Cell<usize>>,
+    ) -> Result<(), OutOfMemory> {
         // no client sends any other
         if let Some(publish) = PublishView::from_view(method) {
-            self.coming = Some(Content::begin(self.alloc, publish, unfinished)?);
+            self.coming = Some(Content::begin(self.alloc, publish, octets)?);
         }
-        Ok(false)
+        Ok(())
     }
 
-    fn head(&mut self, header: HeaderRef<'_>, whole: bool) -> Result<bool> {
+    /// The header of the content came.
+    pub fn head(&mut self, header: HeaderRef<'_>) -> Result<(), OutOfMemory> {
         if let Some(content) = &mut self.coming {
             content.head(self.alloc, header)?;
         }
-        Ok(whole)
+        Ok(())
     }
 
-    fn add(&mut self, part: &[u8], whole: bool) -> Result<bool> {
+    /// A part of its body came.
+    pub fn add(&mut self, part: &[u8]) -> Result<(), AllocError> {
         if let Some(content) = &mut self.coming {
             content.add(part)?;
         }
-        Ok(whole)
+        Ok(())
     }
 
     pub fn consumer_with(&self, tag: &[u8]) -> Option<u64> {
@@ -132,7 +112,12 @@ impl Channel {
         (self.is_flowing && (consumer.no_ack || has_room)).then_some(consumer)
     }
 
-    pub fn await_ack(&mut self, tag: u64, delivery: Delivery) -> Done
+    /// Whether the message under this delivery tag waits to be acknowledged.
+    pub fn awaits(&self, tag: u64) -> bool {
+        self.unacked.contains_key(&tag)
+    }
+
+    pub fn await_ack(&mut self, tag: u64, delivery: Delivery) -> Result<(), AllocError>
         ensures { OnOk result (Awaits self.old self.new tag true) }
     {
         if let Some(id) = delivery.consumer {
@@ -143,6 +128,15 @@ impl Channel {
         }
         self.unacked.insert(tag, delivery)?;
         Ok(())
+    }
+
+    /// The first message that waits under a tag in this range waits no more.
+    pub fn settle_next(&mut self, first: u64, last: u64) -> Option<Delivery> {
+        let tag = *self.unacked.range(first..).next()?.0;
+        if tag > last {
+            return None;
+        }
+        self.settle(tag)
     }
 
     fn settle(&mut self, tag: u64) -> Option<Delivery>
@@ -157,26 +151,4 @@ impl Channel {
         }
         Some(delivery)
     }
-
-    /// Messages wait no more: they are done with, or go back to their queues.
-    pub fn settle_in(&mut self, queues: &mut Queues, first: u64, last: u64, requeue: bool) -> Done {
-        let tags = self.unacked.range(first..).map(|pair| *pair.0);
-        let tags: Vec<u64> = tags.take_while(|tag| *tag <= last).collect(self.alloc)?;
-        for tag in tags {
-            if let Some(delivery) = self.settle(tag)
-                && requeue
-            {
-                put_back(queues, delivery)?;
-            }
-        }
-        Ok(())
-    }
-}
-
-/// A message goes back to its queue.
-fn put_back(queues: &mut Queues, delivery: Delivery) -> Done {
-    if let Some(queue) = queues.get_mut(&delivery.queue) {
-        queue.messages.put_back(delivery.place, delivery.content)?;
-    }
-    Ok(())
 }
