@@ -38,9 +38,15 @@ impl Content {
 }
 
 /// The content that is coming on a channel, if one is.
-#[derive(Drop)]
 pub struct Coming {
     content: Option<Content>,
+}
+
+/// Written out, so that it is proved once.
+impl Drop for Coming {
+    fn drop(self) {
+        let Coming { content: _ } = self;
+    }
 }
 
 impl Coming {

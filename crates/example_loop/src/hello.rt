@@ -1,6 +1,6 @@
 //! The command line, and what the programs say of themselves in the handshake.
 use amqp_core::{Client, ClientHello, Config, End, Server, ServerHello, StreamEnd};
-use amqp_value::{ShortStr, Table, Value};
+use amqp_value::{ShortStr, Table, Value, ValueFault};
 use std::alloc::Global;
 
 /// The greatest body of a content that is taken.
@@ -18,17 +18,22 @@ pub fn word_after<'a>(words: &'a [String], name: &str) -> Option<&'a str> {
     Some(words.get(place + 1)?.as_str())
 }
 
-/// The properties of a program of this name, with what it can do, in words.
-fn properties(alloc: Global, product: &str, abilities: &str) -> anyhow::Result<Table> {
+/// What a program can do, in words.
+fn capabilities(alloc: Global, abilities: &str) -> Result<Table, ValueFault> {
     let mut capabilities = Table::new(alloc);
     for ability in abilities.split(' ') {
         capabilities.push(ShortStr::text(alloc, ability)?, Value::from(true))?;
     }
+    Ok(capabilities)
+}
+
+/// The properties of a program of this name.
+fn properties(alloc: Global, product: &str, abilities: &str) -> Result<Table, ValueFault> {
     let mut properties = Table::new(alloc);
-    let product = Value::string(alloc, product)?;
-    properties.push(ShortStr::text(alloc, "product")?, product)?;
-    let capabilities = Value::from(capabilities);
-    properties.push(ShortStr::text(alloc, "capabilities")?, capabilities)?;
+    let name = ShortStr::text(alloc, "product")?;
+    properties.push(name, Value::string(alloc, product)?)?;
+    let name = ShortStr::text(alloc, "capabilities")?;
+    properties.push(name, Value::from(capabilities(alloc, abilities)?))?;
     Ok(properties)
 }
 
@@ -38,10 +43,12 @@ pub fn server_end(
     product: &str,
     abilities: &str,
 ) -> anyhow::Result<StreamEnd<Server>> {
+    let mechanisms = Vec::from_slice(alloc, b"PLAIN AMQPLAIN")?;
+    let locales = Vec::from_slice(alloc, b"en_US")?;
     let mut config = Config::new(ServerHello {
         properties: properties(alloc, product, abilities)?,
-        mechanisms: Vec::from_slice(alloc, b"PLAIN AMQPLAIN")?,
-        locales: Vec::from_slice(alloc, b"en_US")?,
+        mechanisms,
+        locales,
     });
     config.gated = true;
     config.max_body = MAX_BODY;
@@ -57,13 +64,16 @@ pub fn client_end(
     user: &str,
     password: &str,
 ) -> anyhow::Result<StreamEnd<Client>> {
-    let response = format!(in alloc; "\0{user}\0{password}")?;
+    let mechanism = ShortStr::text(alloc, "PLAIN")?;
+    let response = format!(in alloc; "\0{user}\0{password}")?.into_bytes();
+    let locale = ShortStr::text(alloc, "en_US")?;
+    let virtual_host = ShortStr::text(alloc, "/")?;
     let mut config = Config::new(ClientHello {
         properties: properties(alloc, product, abilities)?,
-        mechanism: ShortStr::text(alloc, "PLAIN")?,
-        response: response.into_bytes(),
-        locale: ShortStr::text(alloc, "en_US")?,
-        virtual_host: ShortStr::text(alloc, "/")?,
+        mechanism,
+        response,
+        locale,
+        virtual_host,
     });
     config.max_body = MAX_BODY;
     config.heartbeat = HEARTBEAT;

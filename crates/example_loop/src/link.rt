@@ -16,7 +16,6 @@ pub const FULL: usize = 1_048_576;
 /// Where more wait or are gathered all the same, a program gives a connection up.
 pub const MOST: usize = 268_435_456;
 
-#[derive(Drop)]
 pub struct Link<R: Role> {
     pub end: Streaming<R>,
     stream: TcpStream,
@@ -31,6 +30,22 @@ pub struct Link<R: Role> {
     /// The peer sends no more. What it sent is read though it is held, so that it is seen to be gone.
     has_left: bool,
     pulse: Pulse,
+}
+
+/// Written out, so that it is proved once.
+impl<R: Role> Drop for Link<R> {
+    fn drop(self) {
+        let Link {
+            end: _,
+            stream: _,
+            can_read: _,
+            can_write: _,
+            is_gone: _,
+            is_held: _,
+            has_left: _,
+            pulse: _,
+        } = self;
+    }
 }
 
 impl<R: Role> Link<R> {

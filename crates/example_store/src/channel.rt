@@ -32,7 +32,6 @@ pub struct Delivery {
     pub consumer: Option<u64>,
 }
 
-#[derive(Drop)]
 pub struct Channel {
     alloc: Global,
     pub consumers: BTreeMap<u64, Consumer>,
@@ -50,6 +49,24 @@ pub struct Channel {
     pub is_flowing: bool,
     /// What has come of the content that the client publishes, until it is whole and taken.
     pub coming: Option<Content>,
+}
+
+/// Written out, so that it is proved once.
+impl Drop for Channel {
+    fn drop(self) {
+        let Channel {
+            alloc: _,
+            consumers: _,
+            unacked: _,
+            last_tag: _,
+            prefetch: _,
+            credit: _,
+            published: _,
+            last_queue: _,
+            is_flowing: _,
+            coming: _,
+        } = self;
+    }
 }
 
 impl Channel {
