@@ -146,12 +146,12 @@ impl Broker {
     }
 
     pub fn delete_queue(&mut self, at: Place, delete: queue::DeleteView<'_>) -> Done {
-        let name = self.queue_name(at, delete.queue);
-        if !self.names.contains_key(name) {
+        let is_there = self.names.contains_key(self.queue_name(at, delete.queue));
+        if !is_there {
             return self.send(at, queue::DeleteOk::new(0));
         }
-        let queue = self.queue(at, name)?;
-        let (id, ready) = (queue.id, queue.messages.count());
+        let queue = self.queue(at, delete.queue)?;
+        let (id, name, ready) = (queue.id, queue.name.as_bytes(), queue.messages.count());
         if (delete.if_unused && !queue.consumers.is_empty()) || (delete.if_empty && ready > 0) {
             return self.refuse(reply::PRECONDITION_FAILED, "in use: queue", name);
         }
