@@ -3,7 +3,7 @@ use crate::connection::{Asked, Connection};
 use crate::exchanges::standard_exchanges;
 use crate::fault::{Done, Fault, Result, close_text};
 use crate::queues::{Place, QueueId, Queues};
-use amqp_core::{AskFault, Server, StreamEnd};
+use amqp_core::{Server, StreamEnd};
 use amqp_method::{Kind, Message, MethodRef, reply};
 use amqp_typed::basic::AnyMethodView as Basic;
 use amqp_typed::exchange::AnyMethodView as Exchanging;
@@ -63,8 +63,11 @@ impl Broker {
     }
 
     pub fn next_id(&mut self) -> Result<u64> {
-        self.last_id = self.last_id.checked_add(1).ok_or(Fault::GivenUp)?;
-        Ok(self.last_id)
+        let Some(id) = self.last_id.checked_add(1) else {
+            return Err(Fault::GivenUp);
+        };
+        self.last_id = id;
+        Ok(id)
     }
 
     /// A name where the client leaves it to the broker.
@@ -75,7 +78,10 @@ impl Broker {
     }
 
     pub fn connection(&mut self, id: usize) -> Result<&mut Connection> {
-        Ok(self.connections.get_mut(&id).ok_or(AskFault::NotRunning)?)
+        match self.connections.get_mut(&id) {
+            Some(connection) => Ok(connection),
+            None => Err(Fault::GivenUp),
+        }
     }
 
     pub fn end(&mut self, at: Place) -> Result<&mut StreamEnd<Server>> {
@@ -242,7 +248,9 @@ impl Broker {
                 }
             }
         }
-        self.first = sender.map_or(first, |id| id.saturating_add(1));
+        if let Some(id) = sender {
+            self.first = id.saturating_add(1);
+        }
     }
 
     /// The first connection whose number is at least this.

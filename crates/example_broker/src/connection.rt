@@ -2,9 +2,9 @@
 ghost use Rattle.std.specs.Prelude.{◌≤◌, IfSome, length};
 
 use crate::broker::BOUND;
-use crate::fault::{Done, Result};
+use crate::fault::{Done, Fault, Result};
 use crate::queues::Queue;
-use amqp_core::{AskFault, EventRef, Server, StreamEnd};
+use amqp_core::{EventRef, Server, StreamEnd};
 use amqp_method::{Kind, MethodRef, OutOfMemory, reply};
 use amqp_typed::TypedRef;
 use amqp_typed::connection::{OpenRef, StartOkRef};
@@ -170,7 +170,10 @@ impl Connection {
     }
 
     pub fn channel(&mut self, number: u16) -> Result<&mut Channel> {
-        Ok(self.channels.get_mut(&number).ok_or(AskFault::NotOpen)?)
+        match self.channels.get_mut(&number) {
+            Some(channel) => Ok(channel),
+            None => Err(Fault::GivenUp),
+        }
     }
 
     /// Sends a consumer the first message of a queue, if it may have one. It answers whether it did.
@@ -193,7 +196,9 @@ impl Connection {
         let Some((place, content, is_redelivered)) = queue.messages.first() else {
             return Ok(false);
         };
-        let channel = self.channels.get_mut(&number).ok_or(AskFault::NotOpen)?;
+        let Some(channel) = self.channels.get_mut(&number) else {
+            return Err(Fault::GivenUp);
+        };
         channel.last_tag = channel.last_tag.saturating_add(1);
         if !no_ack {
             let delivery = Delivery {
@@ -205,7 +210,11 @@ impl Connection {
             channel.await_ack(channel.last_tag, delivery)?;
         }
         let left = queue.messages.count().saturating_sub(1);
-        let method = match consumer.and_then(|id| channel.consumers.get(&id)) {
+        let consumer = match consumer {
+            Some(id) => channel.consumers.get(&id),
+            None => None,
+        };
+        let method = match consumer {
             Some(consumer) => content.deliver(&consumer.tag, channel.last_tag, is_redelivered)?,
             None => content.get_ok(channel.last_tag, is_redelivered, left)?,
         };

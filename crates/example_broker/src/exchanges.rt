@@ -136,14 +136,11 @@ impl Broker {
     }
 
     fn remove_binding(&mut self, name: &[u8], binding: &Binding) -> Done {
-        match self
-            .exchanges
-            .get_mut(name)
-            .map(|exchange| exchange.unbind(binding))
-        {
-            Some(true) => drop(self.exchanges.remove(name)),
-            Some(false) => {}
-            None => return self.no_exchange(name),
+        let Some(exchange) = self.exchanges.get_mut(name) else {
+            return self.no_exchange(name);
+        };
+        if exchange.unbind(binding) {
+            self.exchanges.remove(name);
         }
         Ok(())
     }

@@ -2,7 +2,6 @@
 use crate::broker::{BOUND, Broker};
 use crate::fault::{Done, Fault, Result};
 use crate::queues::{Place, QueueId};
-use amqp_core::AskFault;
 use amqp_method::reply;
 use amqp_typed::{basic, confirm};
 use amqp_value::ShortStr;
@@ -19,8 +18,9 @@ impl Broker {
 
     fn take_content(&mut self, at: Place) -> Result<Rc<Content>> {
         let held = self.held.clone()?;
-        let content = self.channel(at)?.coming.take();
-        let mut content = content.ok_or(Fault::GivenUp)?;
+        let Some(mut content) = self.channel(at)?.coming.take() else {
+            return Err(Fault::GivenUp);
+        };
         content.count_among(held);
         Ok(Rc::new(self.alloc, content)?)
     }
@@ -107,9 +107,10 @@ impl Broker {
 
     /// A queue has one more consumer.
     fn seat(&mut self, at: Place, id: u64, queue: QueueId, is_exclusive: bool) -> Done {
-        let queue = self.queues.get_mut(&queue).ok_or(AskFault::NotOpen)?;
-        queue.consumers.push_back((at, id))?;
-        queue.is_taken = is_exclusive;
+        if let Some(queue) = self.queues.get_mut(&queue) {
+            queue.consumers.push_back((at, id))?;
+            queue.is_taken = is_exclusive;
+        }
         Ok(())
     }
 
@@ -143,9 +144,10 @@ impl Broker {
         if self.end(at)?.waiting_in_all() > BOUND {
             return self.refuse(reply::RESOURCE_ERROR, "too much is not read", b"");
         }
-        let queue = self.queues.get_mut(&id).ok_or(AskFault::NotOpen)?;
-        let connection = self.connections.get_mut(&at.0).ok_or(AskFault::NotOpen)?;
-        if connection.send_first(queue, at.1, None, get.no_ack)? {
+        if let Some(queue) = self.queues.get_mut(&id)
+            && let Some(connection) = self.connections.get_mut(&at.0)
+            && connection.send_first(queue, at.1, None, get.no_ack)?
+        {
             return Ok(());
         }
         self.send(at, basic::GetEmpty::new())
@@ -169,11 +171,13 @@ impl Broker {
 
     /// A message that was sent waits no more: it goes back to its queue, or is done with.
     pub fn done_with(&mut self, delivery: Delivery, requeue: bool) -> Done {
-        let queue = self.queues.get_mut(&delivery.queue).filter(|_| requeue);
-        if let Some(queue) = queue {
-            queue.messages.put_back(delivery.place, delivery.content)?;
+        match self.queues.get_mut(&delivery.queue) {
+            Some(queue) if requeue => {
+                let Delivery { place, content, .. } = delivery;
+                Ok(queue.messages.put_back(place, content)?)
+            }
+            _ => Ok(()),
         }
-        Ok(())
     }
 
     pub fn recover(&mut self, at: Place, requeue: bool) -> Done {

@@ -66,24 +66,26 @@ impl Queue {
 impl Broker {
     /// The name of a queue that a method means: an empty one stands for the one declared last on the channel.
     fn queue_name<'a>(&'a self, at: Place, name: &'a [u8]) -> &'a [u8] {
-        let connection = self.connections.get(&at.0);
-        let channel = connection.and_then(|connection| connection.channels.get(&at.1));
-        match channel {
-            Some(channel) if name.is_empty() => &channel.last_queue,
-            _ => name,
+        if name.is_empty()
+            && let Some(connection) = self.connections.get(&at.0)
+            && let Some(channel) = connection.channels.get(&at.1)
+        {
+            return &channel.last_queue;
         }
+        name
     }
 
     pub fn queue(&self, at: Place, name: &[u8]) -> Result<&Queue> {
         let name = self.queue_name(at, name);
-        let id = self.names.get(name);
-        let Some(queue) = id.and_then(|id| self.queues.get(id)) else {
-            return self.refuse(reply::NOT_FOUND, "no queue", name);
-        };
-        if queue.owner.is_some_and(|owner| owner != at.0) {
-            return self.locked(name);
+        if let Some(id) = self.names.get(name)
+            && let Some(queue) = self.queues.get(id)
+        {
+            return match queue.owner {
+                Some(owner) if owner != at.0 => self.locked(name),
+                _ => Ok(queue),
+            };
         }
-        Ok(queue)
+        self.refuse(reply::NOT_FOUND, "no queue", name)
     }
 
     fn locked<T>(&self, name: &[u8]) -> Result<T> {
@@ -161,7 +163,9 @@ impl Broker {
 
     pub fn purge_queue(&mut self, at: Place, name: &[u8]) -> Done {
         let id = self.queue(at, name)?.id;
-        let queue = self.queues.get_mut(&id).ok_or(Fault::GivenUp)?;
+        let Some(queue) = self.queues.get_mut(&id) else {
+            return Err(Fault::GivenUp);
+        };
         let ready = queue.messages.count();
         queue.messages.purge();
         self.send(at, queue::PurgeOk::new(ready))
