@@ -21,8 +21,10 @@ impl Broker {
         let Some(mut content) = self.channel(at)?.coming.take() else {
             return Err(Fault::GivenUp);
         };
-        content.count_among(held);
-        Ok(Rc::new(self.alloc, content)?)
+        if let Some(content) = Rc::get_mut(&mut content) {
+            content.count_among(held);
+        }
+        Ok(content)
     }
 
     fn hand_out(&mut self, at: Place, content: &Rc<Content>) -> Done {

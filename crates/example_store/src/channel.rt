@@ -48,7 +48,7 @@ pub struct Channel {
     pub last_queue: Vec<u8>,
     pub is_flowing: bool,
     /// What has come of the content that the client publishes, until it is whole and taken.
-    pub coming: Option<Content>,
+    pub coming: Option<Rc<Content>>,
 }
 
 /// Written out, so that it is proved once.
@@ -93,14 +93,17 @@ impl Channel {
     ) -> Result<(), OutOfMemory> {
         // no client sends any other
         if let Some(publish) = PublishView::from_view(method) {
-            self.coming = Some(Content::begin(self.alloc, publish, octets)?);
+            let content = Content::begin(self.alloc, publish, octets)?;
+            self.coming = Some(Rc::new(self.alloc, content)?);
         }
         Ok(())
     }
 
     /// The header of the content came.
     pub fn head(&mut self, header: HeaderRef<'_>) -> Result<(), OutOfMemory> {
-        if let Some(content) = &mut self.coming {
+        if let Some(content) = &mut self.coming
+            && let Some(content) = Rc::get_mut(content)
+        {
             content.head(self.alloc, header)?;
         }
         Ok(())
@@ -108,7 +111,9 @@ impl Channel {
 
     /// A part of its body came.
     pub fn add(&mut self, part: &[u8]) -> Result<(), AllocError> {
-        if let Some(content) = &mut self.coming {
+        if let Some(content) = &mut self.coming
+            && let Some(content) = Rc::get_mut(content)
+        {
             content.add(part)?;
         }
         Ok(())
