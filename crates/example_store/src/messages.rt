@@ -83,7 +83,10 @@ impl Content {
 
 /// What a method says is no longer than a short string may be, so that this fails for memory alone.
 fn short_str(alloc: Global, octets: &[u8]) -> Result<ShortStr, OutOfMemory> {
-    ShortStr::new(alloc, octets).map_err(|_| OutOfMemory)
+    match ShortStr::new(alloc, octets) {
+        Ok(text) => Ok(text),
+        Err(_) => Err(OutOfMemory),
+    }
 }
 
 /// The names of the exchange and of the key, for another method.

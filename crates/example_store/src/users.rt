@@ -34,11 +34,15 @@ impl Users {
     }
 
     fn has(&self, name: &[u8], password: &[u8]) -> bool {
-        let mut users = self
-            .text
-            .as_str()
-            .lines()
-            .filter_map(|line| line.split_once(':'));
-        users.any(|user| user.0.as_bytes() == name && user.1.as_bytes() == password)
+        let mut users = self.text.as_str().lines();
+        users.any(|user| is_user(user, name, password))
+    }
+}
+
+/// Whether a line is of this user with this password.
+fn is_user(line: &str, name: &[u8], password: &[u8]) -> bool {
+    match line.split_once(':') {
+        Some((user, word)) => user.as_bytes() == name && word.as_bytes() == password,
+        None => false,
     }
 }
