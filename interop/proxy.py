@@ -297,6 +297,20 @@ def open_channels(client, queue, channels=1, flags=0):
     until(client, short(queue) + bytes(8))
 
 
+def frames(client):
+    """The frames that come, each as its kind, its channel and its payload, until the peer hangs up."""
+    left = b""
+    while True:
+        while len(left) < 7 or len(left) < 8 + struct.unpack_from(">I", left, 3)[0]:
+            more = client.recv(1_000_000)
+            if not more:
+                return
+            left += more
+        kind, channel, size = struct.unpack_from(">BHI", left)
+        yield kind, channel, left[7 : 7 + size]
+        left = left[8 + size :]
+
+
 def is_quiet(client, seconds):
     return not select.select([client], [], [], seconds)[0]
 
@@ -376,7 +390,8 @@ def closed_by_the_receiver():
 
 
 def closed_while_receiving():
-    """A client that closes its channel in the middle of a content that it is sent: it gets the rest, and then close-ok."""
+    """A client that closes its channel in the middle of a content that it is sent: it gets the rest, and then
+    close-ok."""
     body = os.urandom(20_000_000)
     with Proxy() as proxy, socket.socket() as client:
         client.setsockopt(socket.SOL_SOCKET, socket.SO_RCVBUF, 65_536)
@@ -387,15 +402,13 @@ def closed_while_receiving():
         connection.channel().basic_publish("", "p.receives", body)
         consume = b"\0\x3c\0\x14\0\0" + short(b"p.receives") + short(b"") + b"\x02\0\0\0\0"
         client.sendall(frame(1, 1, consume))
-        time.sleep(1)
+        came = frames(client)
+        bodies = bytearray(next(payload for kind, _, payload in came if kind == 3))
         client.sendall(frame(1, 1, CLOSE))
-        came, bodies = b"", bytearray()
-        while not came.endswith(frame(1, 1, CLOSE_OK)):
-            piece = client.recv(1_000_000)
-            if not piece:
+        for _, _, payload in came:
+            if payload == CLOSE_OK:
                 break
-            came = keep_bodies(came + piece, bodies) if not piece.endswith(frame(1, 1, CLOSE_OK)) else came + piece
-        keep_bodies(came, bodies)
+            bodies += payload
         says("proxy: all of a content whose channel the client closes", True, bodies == body)
         connection.close()
 
@@ -414,6 +427,82 @@ def closed_by_the_sender():
         until(client, b"CONNECTION_FORCED" + bytes(4))
         says("proxy: half a content ends the connection", None, channel.basic_get(queue, auto_ack=True)[2])
         connection.close()
+
+
+HALF = bytes(range(250)) * 800
+
+
+class Amid:
+    """A client in the middle of a content that goes to a broker, which is this one: it takes a client and a channel,
+    with a heartbeat of one second, and keeps nothing."""
+
+    def __enter__(self):
+        self.listening = socket.create_server(("127.0.0.1", 0))
+        self.proxy = Proxy(broker=self.listening.getsockname()[1])
+        self.client = socket.create_connection(("127.0.0.1", self.proxy.port), timeout=30)
+        sends = threading.Thread(target=self.send_half)
+        sends.start()
+        self.broker = self.listening.accept()[0]
+        self.broker.settimeout(30)
+        self.broker.recv(8)
+        self.came = frames(self.broker)
+        long = [struct.pack(">I", len(text)) + text for text in (b"", b"PLAIN", b"en_US")]
+        self.broker.sendall(frame(1, 0, b"\0\x0a\0\x0a\0\x09" + b"".join(long)))
+        next(self.came)
+        self.broker.sendall(frame(1, 0, struct.pack(">HHHIH", 10, 30, 2047, 131_072, 1)))
+        next(self.came)
+        next(self.came)
+        self.broker.sendall(frame(1, 0, b"\0\x0a\0\x29\0"))
+        next(self.came)
+        self.broker.sendall(frame(1, 1, b"\0\x14\0\x0b" + bytes(4)))
+        sends.join()
+        begun = [next(self.came) for _ in range(3)]
+        self.body = begun[2][2]
+        return self
+
+    def send_half(self):
+        log_in(self.client)
+        self.client.sendall(frame(1, 1, OPEN) + frame(1, 1, publish(b"q")) + frame(2, 1, content(2 * len(HALF))))
+        for start in range(0, len(HALF), 40_000):
+            self.client.sendall(frame(3, 1, HALF[start : start + 40_000]))
+
+    def close(self):
+        """The class, the method and the code of the next method that the broker hears, if one comes."""
+        for kind, _, payload in self.came:
+            if kind == 1:
+                return struct.unpack(">HHH", payload[:6])
+        return None
+
+    def __exit__(self, *_):
+        for each in (self.client, self.broker, self.listening):
+            each.close()
+        self.proxy.__exit__()
+
+
+def paused_sender():
+    """A client that pauses in the middle of a content: the broker hears heartbeats, and then gets the rest."""
+    with Amid() as amid:
+        kinds, ends = [], time.monotonic() + 5
+        while time.monotonic() < ends:
+            amid.broker.sendall(frame(8, 0, b""))
+            kinds.append(next(amid.came)[0])
+        says("proxy: heartbeats while the sender of a content pauses", True, kinds.count(8) > 3 and {8} == set(kinds))
+        amid.client.sendall(frame(3, 1, HALF[:100_000]) + frame(3, 1, HALF[100_000:]))
+        while len(amid.body) < 2 * len(HALF):
+            amid.broker.sendall(frame(8, 0, b""))
+            kind, _, payload = next(amid.came)
+            amid.body += payload if kind == 3 else b""
+        says("proxy: and then the rest of the content", True, amid.body == 2 * HALF)
+
+
+def closes_amid_a_content():
+    """The broker hears why its connection ends: it was at fault, or the client is gone."""
+    with Amid() as amid:
+        amid.broker.sendall(frame(1, 7, CLOSE_OK))
+        says("proxy: a receiver at fault in the middle of a content hears why", (10, 50, 504), amid.close())
+    with Amid() as amid:
+        amid.client.close()
+        says("proxy: half a content ends with a close of the connection", (10, 50, 320), amid.close())
 
 
 def flow():
@@ -495,6 +584,8 @@ PARTS = {
     "closed": closed_by_the_receiver,
     "receiving": closed_while_receiving,
     "sender": closed_by_the_sender,
+    "paused": paused_sender,
+    "closes": closes_amid_a_content,
     "flow": flow,
     "logins": refused_logins,
     "gone": broker_that_hangs_up,

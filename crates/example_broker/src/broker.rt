@@ -3,14 +3,14 @@ use crate::connection::{Asked, Connection};
 use crate::exchanges::standard_exchanges;
 use crate::fault::{Done, Fault, Result, close_text};
 use crate::queues::{Place, QueueId, Queues};
-use amqp_core::{Server, StreamEnd};
+use amqp_core::Server;
 use amqp_method::{Kind, Message, MethodRef, reply};
 use amqp_typed::basic::AnyMethodView as Basic;
 use amqp_typed::exchange::AnyMethodView as Exchanging;
 use amqp_typed::queue::AnyMethodView as Queueing;
 use amqp_typed::{AnyMethodView, Typed};
 use amqp_value::ShortStr;
-use example_loop::{Connect, Program};
+use example_loop::{Connect, Program, Streaming};
 use example_store::{Channel, Exchange, Users};
 use mio::net::TcpStream;
 use std::alloc::Global;
@@ -84,7 +84,7 @@ impl Broker {
         }
     }
 
-    pub fn end(&mut self, at: Place) -> Result<&mut StreamEnd<Server>> {
+    pub fn end(&mut self, at: Place) -> Result<&mut Streaming<Server>> {
         Ok(self.connection(at.0)?.end())
     }
 
@@ -177,17 +177,9 @@ impl Broker {
     pub fn send<T: Typed>(&mut self, at: Place, method: T) -> Done {
         let message = Message::try_plain(method.into_method(self.alloc)?);
         match message {
-            Ok(message) => self.put(at, &message),
+            Ok(message) => Ok(self.end(at)?.send(at.1, &message)?),
             Err(_) => Err(Fault::GivenUp),
         }
-    }
-
-    fn put(&mut self, at: Place, message: &Message) -> Done {
-        let end = self.end(at)?;
-        if message.method().kind().is_reply() && end.reply_due(at.1).is_none() {
-            return Ok(());
-        }
-        Ok(end.send(at.1, message)?)
     }
 
     /// Closes the channel for a method that is refused, or the connection where the error is a hard one.

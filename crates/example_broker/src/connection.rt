@@ -4,12 +4,12 @@ ghost use Rattle.std.specs.Prelude.{◌≤◌, IfSome, length};
 use crate::broker::BOUND;
 use crate::fault::{Done, Fault, Result};
 use crate::queues::Queue;
-use amqp_core::{EventRef, Server, StreamEnd};
+use amqp_core::{EventRef, Server};
 use amqp_method::{Kind, MethodRef, OutOfMemory, reply};
 use amqp_typed::TypedRef;
 use amqp_typed::connection::{OpenRef, StartOkRef};
 use amqp_value::{ShortStr, Value};
-use example_loop::{FULL, Link, server_end};
+use example_loop::{BROKER_ABILITIES, FULL, Link, Streaming, server_end};
 use example_store::{Channel, Delivery, Users};
 use mio::net::TcpStream;
 use std::alloc::Global;
@@ -17,10 +17,6 @@ use std::cell::Cell;
 use std::collections::BTreeMap;
 use std::mem::replace;
 use std::rc::Rc;
-
-/// What clients look for before they use it.
-const ABILITIES: &str =
-    "publisher_confirms basic.nack per_consumer_qos connection.blocked authentication_failure_close";
 
 /// What a frame on a channel asks of the broker, once the end can be answered.
 #[derive(Clone, Copy)]
@@ -57,7 +53,7 @@ pub struct Connection {
 impl Connection {
     pub fn new(alloc: Global, users: Rc<Users>, stream: TcpStream) -> anyhow::Result<Connection> {
         let unfinished = Rc::new(alloc, Cell::new(0))?;
-        let end = server_end(alloc, "example_broker", ABILITIES)?;
+        let end = server_end(alloc, "example_broker", &BROKER_ABILITIES)?;
         Ok(Connection {
             alloc,
             users,
@@ -70,8 +66,8 @@ impl Connection {
         })
     }
 
-    pub fn end(&mut self) -> &mut StreamEnd<Server> {
-        &mut self.link.end.inner
+    pub fn end(&mut self) -> &mut Streaming<Server> {
+        &mut self.link.end
     }
 
     /// Takes octets up to the end of a frame, and answers how many, and what the frame asks on which channel. The payload
@@ -109,7 +105,7 @@ impl Connection {
     }
 
     pub fn login(&mut self) -> Done {
-        let start = self.link.end.inner.heard(Kind::ConnectionStartOk);
+        let start = self.link.end.heard(Kind::ConnectionStartOk);
         let start = start.and_then(StartOkRef::from_ref);
         let is_user = start.and_then(|start| self.users.allow(self.alloc, &start));
         let abilities = start.and_then(StartOkRef::capabilities);
@@ -120,14 +116,13 @@ impl Connection {
 
     /// Lets a client into the virtual host.
     pub fn enter(&mut self) -> Done {
-        let open = self.link.end.inner.heard(Kind::ConnectionOpen);
+        let open = self.link.end.heard(Kind::ConnectionOpen);
         let open = open.and_then(OpenRef::from_ref);
         let is_host = open.map(|open| open.virtual_host.as_bytes() == b"/".as_slice());
         self.admit(is_host, reply::NOT_ALLOWED, "no such host")
     }
 
     fn admit(&mut self, is_fine: Option<bool>, code: u16, why: &str) -> Done {
-        self.end().forget_heard();
         if is_fine == Some(true) {
             return Ok(self.end().admit()?);
         }
@@ -137,7 +132,7 @@ impl Connection {
 
     /// Whether so little waits to be written that more may be added.
     pub fn has_room(&self) -> bool {
-        !self.link.is_over() && self.link.end.inner.waiting_in_all() <= FULL
+        !self.link.is_over() && self.link.end.waiting() <= FULL
     }
 
     /// Writes what waits, and reads once. It answers how many octets came.
@@ -219,7 +214,7 @@ impl Connection {
             None => content.get_ok(channel.last_tag, is_redelivered, left)?,
         };
         let properties = &content.header.properties;
-        let end = &mut self.link.end.inner;
+        let end = &mut self.link.end;
         end.send_content(number, &method, properties, &content.body)?;
         queue.messages.remove(place);
         Ok(true)

@@ -143,7 +143,7 @@ impl Broker {
 
     pub fn get(&mut self, at: Place, get: basic::GetView<'_>) -> Done {
         let id = self.queue(at, get.queue)?.id;
-        if self.end(at)?.waiting_in_all() > BOUND {
+        if self.end(at)?.waiting() > BOUND {
             return self.refuse(reply::RESOURCE_ERROR, "too much is not read", b"");
         }
         if let Some(queue) = self.queues.get_mut(&id)

@@ -59,7 +59,10 @@ impl Coming {
 
     /// About how many octets it takes so far.
     pub fn octets(&self) -> usize {
-        self.content.as_ref().map_or(0, Content::octets)
+        match &self.content {
+            Some(content) => content.octets(),
+            None => 0,
+        }
     }
 
     /// A method begins a content.

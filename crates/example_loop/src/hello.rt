@@ -9,8 +9,21 @@ const MAX_BODY: u64 = 134_217_728;
 /// The heartbeat that is proposed, in seconds.
 const HEARTBEAT: u16 = 60;
 
+/// What clients look for before they use a broker.
+pub const BROKER_ABILITIES: [&str; 5] = [
+    "publisher_confirms",
+    "basic.nack",
+    "per_consumer_qos",
+    "connection.blocked",
+    "authentication_failure_close",
+];
+
 /// What clients and brokers look for before they use a program that passes on what they say.
-pub const ABILITIES: &str = "publisher_confirms basic.nack authentication_failure_close";
+pub const ABILITIES: [&str; 3] = [
+    "publisher_confirms",
+    "basic.nack",
+    "authentication_failure_close",
+];
 
 /// The word that stands after another on the command line, if that is there.
 pub fn word_after<'a>(words: &'a [String], name: &str) -> Option<&'a str> {
@@ -18,17 +31,17 @@ pub fn word_after<'a>(words: &'a [String], name: &str) -> Option<&'a str> {
     Some(words.get(place + 1)?.as_str())
 }
 
-/// What a program can do, in words.
-fn capabilities(alloc: Global, abilities: &str) -> Result<Table, ValueFault> {
+/// What a program can do.
+fn capabilities(alloc: Global, abilities: &[&str]) -> Result<Table, ValueFault> {
     let mut capabilities = Table::new(alloc);
-    for ability in abilities.split(' ') {
+    for ability in abilities {
         capabilities.push(ShortStr::text(alloc, ability)?, Value::from(true))?;
     }
     Ok(capabilities)
 }
 
 /// The properties of a program of this name.
-fn properties(alloc: Global, product: &str, abilities: &str) -> Result<Table, ValueFault> {
+fn properties(alloc: Global, product: &str, abilities: &[&str]) -> Result<Table, ValueFault> {
     let mut properties = Table::new(alloc);
     let name = ShortStr::text(alloc, "product")?;
     properties.push(name, Value::string(alloc, product)?)?;
@@ -41,7 +54,7 @@ fn properties(alloc: Global, product: &str, abilities: &str) -> Result<Table, Va
 pub fn server_end(
     alloc: Global,
     product: &str,
-    abilities: &str,
+    abilities: &[&str],
 ) -> anyhow::Result<StreamEnd<Server>> {
     let mechanisms = Vec::from_slice(alloc, b"PLAIN AMQPLAIN")?;
     let locales = Vec::from_slice(alloc, b"en_US")?;
@@ -60,7 +73,7 @@ pub fn server_end(
 pub fn client_end(
     alloc: Global,
     product: &str,
-    abilities: &str,
+    abilities: &[&str],
     user: &str,
     password: &str,
 ) -> anyhow::Result<StreamEnd<Client>> {

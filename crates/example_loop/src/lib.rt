@@ -2,6 +2,7 @@
 //! parts, and a hello.
 #![tactic(auto)]
 
+mod asks;
 mod contents;
 mod hello;
 mod link;
@@ -11,7 +12,7 @@ mod sockets;
 mod streaming;
 
 pub use crate::contents::{Coming, Content, may_go_later, octets_of};
-pub use crate::hello::{ABILITIES, client_end, server_end, word_after};
+pub use crate::hello::{ABILITIES, BROKER_ABILITIES, client_end, server_end, word_after};
 pub use crate::link::{FULL, Heard, Link, MOST};
 pub use crate::running::{Program, serve};
 pub use crate::sockets::Connect;

@@ -3,7 +3,7 @@ ghost use Rattle.std.specs.Prelude.{◌≡◌, ◌≤◌, IfSome, length};
 
 use crate::pulse::Pulse;
 use crate::streaming::Streaming;
-use amqp_core::{Cause, EventRef, Phase, Role, StreamEnd};
+use amqp_core::{EventRef, Phase, Role, StreamEnd};
 use amqp_method::Kind;
 use mio::event;
 use mio::net::TcpStream;
@@ -138,7 +138,7 @@ impl<R: Role> Link<R> {
         if heartbeat > 0 && self.pulse.is_over(heartbeat) {
             self.is_gone = true;
         } else if heartbeat > 0 && self.pulse.owes_beat(heartbeat) && !self.end.has_output() {
-            // refused where the connection isn't open any more, and then none is due
+            // without memory for it the next tick tries again
             let _ = self.end.beat();
         }
     }
@@ -163,7 +163,10 @@ impl<R: Role> Link<R> {
             return None;
         };
         let taken = step.octets;
-        let about = self.end.inner.closed_for().and_then(Cause::kind);
+        let about = match self.end.inner.closed_for() {
+            Some(cause) => cause.kind(),
+            None => None,
+        };
         match self.end.inner.event(step) {
             Some(event) => {
                 let number = number_of(event);

@@ -1,10 +1,16 @@
 //! An end that sends contents as their bodies come.
 use crate::link::FULL;
-use amqp_core::{AskFault, BodyFault, BodyWriter, LendFault, Phase, Role, StreamEnd};
+use amqp_core::{BodyFault, BodyWriter, LendFault, Phase, Role, StreamEnd};
 use amqp_method::{Method, Properties};
 use mio::net::TcpStream;
-use std::alloc::Global;
+use std::alloc::{AllocError, Global};
 use std::io::{self, Write};
+
+/// What stands around the payload of a frame.
+const AROUND: u32 = 8;
+
+/// A frame without a payload, on channel 0.
+const HEARTBEAT: [u8; 8] = [8, 0, 0, 0, 0, 0, 0, 0xce];
 
 /// A content whose body is still to come, in part.
 #[derive(Drop)]
@@ -12,14 +18,45 @@ struct UnderWay {
     writer: BodyWriter,
     /// The channel of the other side from which it comes.
     source: u16,
+    /// How many octets of the body each frame has, but for the last.
+    room: usize,
+    /// What has come of the next frame, which is written once all has.
+    begun: Vec<u8>,
 }
 
-/// An end that lends, and may send one content at a time before its body is there. What it puts meanwhile waits.
+impl UnderWay {
+    /// Appends the frames that are whole with the next octets of the body.
+    fn pass(&mut self, part: &[u8], octets: &mut Vec<u8>) -> Result<(), BodyFault> {
+        let before = self.begun.len();
+        let whole = self.in_frames(before.saturating_add(part.len()));
+        let (now, later) = part.split_at(part.len().min(whole.saturating_sub(before)));
+        if whole > 0 {
+            self.writer.write(&self.begun, octets)?;
+            self.begun.clear();
+            self.writer.write(now, octets)?;
+        }
+        match self.begun.extend_from_slice(later) {
+            Ok(()) => Ok(()),
+            Err(_) => Err(BodyFault::OutOfMemory),
+        }
+    }
+
+    /// How many of so many octets stand in frames that are whole.
+    fn in_frames(&self, count: usize) -> usize {
+        if count as u64 >= self.writer.left() {
+            return count;
+        }
+        count - count.checked_rem(self.room).unwrap_or(0)
+    }
+}
+
+/// An end that lends, and may send one content at a time before its body is there. What it puts meanwhile waits, but for
+/// a close of the connection, which makes an end of the content.
 #[derive(Drop)]
 pub struct Streaming<R: Role> {
     pub inner: StreamEnd<R>,
     under_way: Option<UnderWay>,
-    /// The octets of such contents, which go out before those that the end puts.
+    /// The frames of such contents, which go out before those that the end puts.
     ahead: Vec<u8>,
     /// So many of them are written.
     gone: usize,
@@ -40,7 +77,10 @@ impl<R: Role> Streaming<R> {
 
     /// The channel of the other side from which a content comes that is under way.
     pub fn source(&self) -> Option<u16> {
-        self.under_way.as_ref().map(|content| content.source)
+        match &self.under_way {
+            Some(content) if self.inner.phase() == Phase::Running => Some(content.source),
+            _ => None,
+        }
     }
 
     /// What waits of such contents for the socket.
@@ -61,8 +101,17 @@ impl<R: Role> Streaming<R> {
             return Err(LendFault::Waits);
         }
         let end = &mut self.inner;
+        let frame_max = match end.agreed() {
+            Some(agreed) => agreed.frame_max,
+            None => 0,
+        };
         let writer = end.begin_content(channel, method, properties, size, &mut self.ahead)?;
-        self.under_way = Some(UnderWay { writer, source });
+        self.under_way = Some(UnderWay {
+            writer,
+            source,
+            room: frame_max.saturating_sub(AROUND) as usize,
+            begun: Vec::new(*self.ahead.allocator()),
+        });
         self.finish();
         Ok(())
     }
@@ -70,7 +119,7 @@ impl<R: Role> Streaming<R> {
     /// The next octets of the body.
     pub fn pass(&mut self, part: &[u8]) -> Result<(), BodyFault> {
         if let Some(content) = &mut self.under_way {
-            content.writer.write(part, &mut self.ahead)?;
+            content.pass(part, &mut self.ahead)?;
         }
         self.finish();
         Ok(())
@@ -105,7 +154,7 @@ impl<R: Role> Streaming<R> {
     }
 
     pub fn has_output(&self) -> bool {
-        let has_next = self.under_way.is_none() && !self.inner.output().is_empty();
+        let has_next = self.source().is_none() && !self.inner.output().is_empty();
         has_next || !self.ahead().is_empty()
     }
 
@@ -115,7 +164,7 @@ impl<R: Role> Streaming<R> {
             let count = stream.write(self.ahead())?;
             self.let_go(count);
             count
-        } else if self.under_way.is_none() {
+        } else if self.source().is_none() {
             let count = stream.write(self.inner.output())?;
             self.inner.wrote(count);
             count
@@ -130,12 +179,13 @@ impl<R: Role> Streaming<R> {
         self.inner.heartbeat()
     }
 
-    /// Puts a heartbeat. While a content is under way none goes out.
-    pub(crate) fn beat(&mut self) -> Result<(), AskFault> {
-        if self.under_way.is_some() {
-            return Ok(());
+    /// Puts a heartbeat: amid a content after the frames that wait, and else where the connection is open.
+    pub(crate) fn beat(&mut self) -> Result<(), AllocError> {
+        if self.source().is_some() {
+            return self.ahead.extend_from_slice(&HEARTBEAT);
         }
-        self.inner.beat()
+        drop(self.inner.beat());
+        Ok(())
     }
 
     /// How many octets were taken, and how many were written.

@@ -66,14 +66,15 @@ impl Relay {
         broker.link.is_held = client.is_full(broker);
     }
 
-    /// What the client said before it left is told to the broker before that is closed, unless half a content is out.
+    /// What the client said before it left is told to the broker before that is closed, unless half a content went there.
     fn pass_on(&mut self, rt: &impl Print, ticks: bool, room: &mut [u8]) -> Done {
         let (client, broker) = (&mut self.client, &mut self.broker);
         client.pull(rt, broker, room)?;
         broker.pull(rt, client, room)?;
         client.answer(broker.link.end.inner.phase() == Phase::Running);
         client.advance(true, broker.link.source())?;
-        broker.advance(false, client.link.source())?;
+        let has_half = broker.link.source().is_some();
+        broker.advance(has_half, client.link.source())?;
         client.link.settle(ticks);
         broker.link.settle(ticks);
         client.begin(broker)?;
@@ -99,9 +100,9 @@ impl Program for Relays<'_> {
 
     fn add(&mut self, to: &impl Connect, number: usize, stream: TcpStream) -> Done {
         let alloc = self.alloc;
-        let client = server_end(alloc, "example_proxy", ABILITIES)?;
+        let client = server_end(alloc, "example_proxy", &ABILITIES)?;
         let client = Peer::new(alloc, stream, client, self.log)?;
-        let broker = client_end(alloc, "example_proxy", ABILITIES, self.user, self.password)?;
+        let broker = client_end(alloc, "example_proxy", &ABILITIES, self.user, self.password)?;
         let stream = to.connect(number, self.broker)?;
         let broker = Peer::new(alloc, stream, broker, self.log)?;
         self.relays.insert(number, Relay { client, broker })?;

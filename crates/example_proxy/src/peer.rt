@@ -35,8 +35,7 @@ impl<R: Role> Peer<R> {
 
     /// About how many octets wait for it, or are gathered for it at the other side.
     pub fn octets<P: Role>(&self, from: &Peer<P>) -> usize {
-        let end = &self.link.end;
-        let mut octets = end.inner.waiting_in_all().saturating_add(end.ahead().len());
+        let mut octets = self.link.end.waiting();
         for channel in self.channels.values() {
             octets = octets.saturating_add(channel.octets());
         }
@@ -98,20 +97,21 @@ impl<R: Role> Peer<R> {
         if let Some(channel) = channels.get_mut(&heard.number) {
             if is_source && let EventRef::Part(_, part, _) = heard.event {
                 self.link.end.pass(part)?;
-            } else if let Some(partner) = channel.partner
-                && let Some(asking) = asked_by(self.alloc, &mut channel.coming, partner, heard)?
-            {
+            } else if let Some(partner) = channel.partner {
+                let asking = asked_by(self.alloc, &mut channel.coming, partner, heard)?;
                 self.push(partner, asking)?;
             }
         } else if let EventRef::Opened(number) = heard.event {
             let partner = self.link.end.inner.open_channel()?;
             channels.insert(number, Channel::new(self.alloc, partner))?;
-            self.channels
-                .insert(partner, Channel::new(self.alloc, number))?;
+            let own = Channel::new(self.alloc, number);
+            self.channels.insert(partner, own)?;
         }
         if let EventRef::ChannelClosed(number, _) | EventRef::Discarded(number) = heard.event {
-            self.link.is_gone |= is_source;
             channels.remove(&number);
+            if is_source {
+                self.close(reply::CONNECTION_FORCED, "CONNECTION_FORCED")?;
+            }
         }
         Ok(())
     }
@@ -123,24 +123,20 @@ impl<R: Role> Peer<R> {
                 && let Some(own) = self.channels.get(&partner)
                 && own.waiting.is_empty()
             {
-                channel
-                    .coming
-                    .pass_on(self.alloc, &mut self.link.end, partner, *number)?;
+                let (coming, end) = (&mut channel.coming, &mut self.link.end);
+                coming.pass_on(self.alloc, end, partner, *number)?;
             }
         }
         Ok(())
     }
 
-    /// Asks something on a channel, after what waits there. After a close nothing is; amid a content it ends the link.
-    fn push(&mut self, number: u16, asking: Asking) -> Done {
-        self.link.is_gone |= number == 0 && asking.closes() && self.link.source().is_some();
-        if let Some(channel) = self.channels.get_mut(&number)
-            && channel.partner.is_some()
-            && !self.link.is_over()
-        {
-            channel.push(asking)?;
+    /// Asks something on a channel, after what waits there. After a close nothing is.
+    fn push(&mut self, number: u16, asking: Option<Asking>) -> Done {
+        let is_over = self.link.is_over();
+        match (self.channels.get_mut(&number), asking) {
+            (Some(own), Some(ask)) if own.partner.is_some() && !is_over => Ok(own.push(ask)?),
+            _ => Ok(()),
         }
-        Ok(())
     }
 
     /// Asks what waits on the channels, then what is for the connection: that at once, or once nothing else is left. A
@@ -158,7 +154,7 @@ impl<R: Role> Peer<R> {
 
     pub fn close(&mut self, code: u16, text: &str) -> Done {
         let text = ShortStr::text(self.alloc, text)?;
-        self.push(0, Asking::Plain(Ask::Close(code, text), None))
+        self.push(0, Some(Asking::Plain(Ask::Close(code, text), None)))
     }
 
     /// Closes the connection, and forgets what else waits.
@@ -170,11 +166,12 @@ impl<R: Role> Peer<R> {
 
     /// Answers a client that logs in. It is let in once the broker has let in the proxy, and refused where it won't.
     pub fn answer(&mut self, lets_in: bool) {
-        let first = self.channels.get(&0).and_then(|all| all.waiting.front());
         if lets_in {
-            drop(self.link.end.inner.admit());
-        } else if let Some(Asking::Plain(Ask::Close(code, text), _)) = first {
-            drop(self.link.end.inner.refuse(*code, text));
+            drop(self.link.end.admit());
+        } else if let Some(all) = self.channels.get(&0)
+            && let Some(Asking::Plain(Ask::Close(code, text), _)) = all.waiting.front()
+        {
+            drop(self.link.end.refuse(*code, text));
         }
     }
 }
