@@ -37,4 +37,4 @@ pub endpoint_field_sent : IsSend endpoint.the_field.row
 endpoint_field_sent = search (connection_field_sent, splitter_sent.the_send, outbox_sent.the_send, tally_sent.the_field_send, sendable) depth 20
 
 pub heard_field_sent : IsSend heard.the_field.row
-heard_field_sent = search (method_sent, cause_sent.the_send, sendable) depth 20 fits 5000
+heard_field_sent = search (method_sent, cause_sent.the_send, sendable, crosses) depth 20 fits 5000
