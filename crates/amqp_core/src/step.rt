@@ -59,9 +59,11 @@ impl<'a> Step<'a> {
     }
 }
 
-/// The event of a frame of a channel.
-#[inline(always)]
-fn lend_told<'a>(number: u16, reading: Reading<'a>, told: Told) -> Option<EventRef<'a>>
+/// The event of a frame of a channel that tells of no message.
+///
+/// It stands apart, as few frames do: with it in line, what takes a frame would be too large to stand where it is called.
+#[inline(never)]
+fn lend_apart<'a>(number: u16, reading: Reading<'a>, told: Told) -> Option<EventRef<'a>>
     ensures { event_ref_there result ≡ channel_lent number (reading_view reading.entry) told }
 {
     match told {
@@ -77,6 +79,30 @@ fn lend_told<'a>(number: u16, reading: Reading<'a>, told: Told) -> Option<EventR
         Told::ClosedByUs => Some(EventRef::ChannelClosed(number, None)),
         Told::Discarded => Some(EventRef::Discarded(number)),
         Told::Quiet => Some(EventRef::Quiet),
+    }
+}
+
+/// The event of a frame of a channel.
+#[inline(always)]
+fn lend_told<'a>(number: u16, reading: Reading<'a>, told: Told) -> Option<EventRef<'a>>
+    ensures { event_ref_there result ≡ channel_lent number (reading_view reading.entry) told }
+{
+    match told {
+        Told::Method => lend_method(number, reading),
+        Told::Begun => lend_part(number, reading, false),
+        Told::Headed => lend_part(number, reading, false),
+        Told::Continued => lend_part(number, reading, false),
+        Told::Completed => lend_part(number, reading, true),
+        Told::Opened
+        | Told::Flow(_)
+        | Told::FlowOk(_)
+        | Told::ClosedByPeer
+        | Told::ClosedByUs
+        | Told::Discarded
+        | Told::Quiet => {
+            let event = lend_apart(number, reading, told);
+            event
+        }
     }
 }
 
