@@ -68,9 +68,7 @@ fn lend_apart<'a>(number: u16, reading: Reading<'a>, told: Told) -> Option<Event
 {
     match told {
         Told::Method => lend_method(number, reading),
-        Told::Begun => lend_part(number, reading, false),
-        Told::Headed => lend_part(number, reading, false),
-        Told::Continued => lend_part(number, reading, false),
+        Told::Begun | Told::Continued | Told::Headed => lend_part(number, reading, false),
         Told::Completed => lend_part(number, reading, true),
         Told::Opened => Some(EventRef::Opened(number)),
         Told::Flow(active) => Some(EventRef::Flow(number, active)),
