@@ -50,18 +50,10 @@ tune-requires-clause-fits c =
     let old = c.args.self.now in
     let role = role_at old in
     let config = config_view old.connection.settings in
-    let piece = c.args.piece.now in
     let frame = lent c.in-Some.frame in
-    let octets = frame_length frame in
     let said = c.receive-answer.result in
-    let whole = c.in-Some.ensures.whole in
     let running : reads_frames role (phase_at old.connection.stage) ≡ true = running_reads role old.connection.stage c.args.agreed c.requires.running in
     let r = reads role (connection_end old.connection).phase running in
-    let none : old.heard ≡ 0 = c.requires.sound.fields.opened r.opened in
-    let by = fed_by role (connection_end old.connection) old.heard old.splitter old.outbox.output piece running c.requires.sound.fields c.requires.sound.holds (λ i. omega (arith, c.type_inv.piece i)) in
-    let completes : Completes old.splitter (take octets piece) frame = whole.frame in
-    let law = c.pieces_are_split.ensures.frame role config (endpoint_view old) old.splitter piece octets frame in
-    let after : c.take_whole.new.self ≡ after_taking old.splitter piece octets (Some (Piece c.in-Some.frame)) = whole.after in
     let left = frame_leaves role config (connection_end old.connection) (connection_end c.receive-answer.new.self) frame (ran_out said) c.requires.sound.writes
     (c.agreed_is_within.ensures.frame role config (connection_end old.connection) frame) (c.requires.sound.fields.awaited r.opened) c.requires.sound.fields.agreed c.receive-answer.ensures.receives.end in
     left.0
@@ -103,10 +95,7 @@ returns-clause-sound c =
     let whole = c.in-Some.ensures.whole in
     let running : reads_frames role (phase_at old.connection.stage) ≡ true = running_reads role old.connection.stage c.args.agreed c.requires.running in
     let r = reads role (connection_end old.connection).phase running in
-    let none : old.heard ≡ 0 = c.requires.sound.fields.opened r.opened in
     let by = fed_by role (connection_end old.connection) old.heard old.splitter old.outbox.output piece running c.requires.sound.fields c.requires.sound.holds (λ i. omega (arith, c.type_inv.piece i)) in
-    let completes : Completes old.splitter (take octets piece) frame = whole.frame in
-    let law = c.pieces_are_split.ensures.frame role config (endpoint_view old) old.splitter piece octets frame in
     let after : c.take_whole.new.self ≡ after_taking old.splitter piece octets (Some (Piece c.in-Some.frame)) = whole.after in
     let left = frame_leaves role config (connection_end old.connection) (connection_end c.receive-answer.new.self) frame (ran_out said) c.requires.sound.writes
     (c.agreed_is_within.ensures.frame role config (connection_end old.connection) frame) (c.requires.sound.fields.awaited r.opened) c.requires.sound.fields.agreed c.receive-answer.ensures.receives.end in
@@ -119,19 +108,11 @@ pub returns-clause-in_place : goal.returns-clause-in_place
 returns-clause-in_place c = λ drops.
     let old = c.args.self.now in
     let role = role_at old in
-    let config = config_view old.connection.settings in
     let piece = c.args.piece.now in
     let frame = lent c.in-Some.frame in
     let octets = frame_length frame in
-    let said = c.receive-answer.result in
     let whole = c.in-Some.ensures.whole in
-    let running : reads_frames role (phase_at old.connection.stage) ≡ true = running_reads role old.connection.stage c.args.agreed c.requires.running in
-    let r = reads role (connection_end old.connection).phase running in
-    let none : old.heard ≡ 0 = c.requires.sound.fields.opened r.opened in
-    let by = fed_by role (connection_end old.connection) old.heard old.splitter old.outbox.output piece running c.requires.sound.fields c.requires.sound.holds (λ i. omega (arith, c.type_inv.piece i)) in
     let completes : Completes old.splitter (take octets piece) frame = whole.frame in
-    let law = c.pieces_are_split.ensures.frame role config (endpoint_view old) old.splitter piece octets frame in
-    let after : c.take_whole.new.self ≡ after_taking old.splitter piece octets (Some (Piece c.in-Some.frame)) = whole.after in
     let starts = none_pending role (connection_end old.connection) old.heard old.splitter old.outbox.output piece c.requires.sound.fields drops in
     c.receive-answer.ensures.receives.alone (given_dropped role (endpoint_view old) old.splitter piece octets frame c.one_frame_at_start.ensures drops starts completes)
 
@@ -146,12 +127,9 @@ returns-clause-account c = λ ran.
     let said = c.receive-answer.result in
     let whole = c.in-Some.ensures.whole in
     let running : reads_frames role (phase_at old.connection.stage) ≡ true = running_reads role old.connection.stage c.args.agreed c.requires.running in
-    let r = reads role (connection_end old.connection).phase running in
-    let none : old.heard ≡ 0 = c.requires.sound.fields.opened r.opened in
     let by = fed_by role (connection_end old.connection) old.heard old.splitter old.outbox.output piece running c.requires.sound.fields c.requires.sound.holds (λ i. omega (arith, c.type_inv.piece i)) in
     let completes : Completes old.splitter (take octets piece) frame = whole.frame in
     let law = c.pieces_are_split.ensures.frame role config (endpoint_view old) old.splitter piece octets frame in
-    let after : c.take_whole.new.self ≡ after_taking old.splitter piece octets (Some (Piece c.in-Some.frame)) = whole.after in
     let item = item_is said c.receive-answer.new.account.octets (parts_there c.receive-answer.new.account.parts)
     (outcome_of (facts_at config (connection_end old.connection) frame.channel) (end_verdict config (connection_end old.connection) frame))
     c.receive-answer.ensures.receives.said ran in
@@ -165,18 +143,8 @@ returns-clause-grows c =
     let old = c.args.self.now in
     let role = role_at old in
     let config = config_view old.connection.settings in
-    let piece = c.args.piece.now in
     let frame = lent c.in-Some.frame in
-    let octets = frame_length frame in
     let said = c.receive-answer.result in
-    let whole = c.in-Some.ensures.whole in
-    let running : reads_frames role (phase_at old.connection.stage) ≡ true = running_reads role old.connection.stage c.args.agreed c.requires.running in
-    let r = reads role (connection_end old.connection).phase running in
-    let none : old.heard ≡ 0 = c.requires.sound.fields.opened r.opened in
-    let by = fed_by role (connection_end old.connection) old.heard old.splitter old.outbox.output piece running c.requires.sound.fields c.requires.sound.holds (λ i. omega (arith, c.type_inv.piece i)) in
-    let completes : Completes old.splitter (take octets piece) frame = whole.frame in
-    let law = c.pieces_are_split.ensures.frame role config (endpoint_view old) old.splitter piece octets frame in
-    let after : c.take_whole.new.self ≡ after_taking old.splitter piece octets (Some (Piece c.in-Some.frame)) = whole.after in
     frame_grows old.connection.settings (connection_end old.connection) frame said c.receive-answer.new.account.owed old.outbox.output c.receive-answer.new.outbox c.requires.sound.writes
     (c.frames_are_within.ensures.verdict role (facts_at config (connection_end old.connection) frame.channel) (reading frame)) c.receive-answer.ensures.receives.owed c.receive-answer.ensures.receives.output
 
@@ -197,12 +165,9 @@ returns-clause-tally c =
     let said = c.receive-answer.result in
     let whole = c.in-Some.ensures.whole in
     let running : reads_frames role (phase_at old.connection.stage) ≡ true = running_reads role old.connection.stage c.args.agreed c.requires.running in
-    let r = reads role (connection_end old.connection).phase running in
-    let none : old.heard ≡ 0 = c.requires.sound.fields.opened r.opened in
     let by = fed_by role (connection_end old.connection) old.heard old.splitter old.outbox.output piece running c.requires.sound.fields c.requires.sound.holds (λ i. omega (arith, c.type_inv.piece i)) in
     let completes : Completes old.splitter (take octets piece) frame = whole.frame in
     let law = c.pieces_are_split.ensures.frame role config (endpoint_view old) old.splitter piece octets frame in
-    let after : c.take_whole.new.self ≡ after_taking old.splitter piece octets (Some (Piece c.in-Some.frame)) = whole.after in
     blames_of_frame role config said (endpoint_view old) piece _ octets frame _ _ _ c.judged_is_said.ensures.one running
     (law by whole.within completes)
     (whole_of old.splitter (endpoint_view old) (take octets piece) frame by.splits completes) c.count.ensures c.receive-answer.ensures.tally
@@ -218,12 +183,9 @@ returns-clause-heard c =
     let said = c.receive-answer.result in
     let whole = c.in-Some.ensures.whole in
     let running : reads_frames role (phase_at old.connection.stage) ≡ true = running_reads role old.connection.stage c.args.agreed c.requires.running in
-    let r = reads role (connection_end old.connection).phase running in
-    let none : old.heard ≡ 0 = c.requires.sound.fields.opened r.opened in
     let by = fed_by role (connection_end old.connection) old.heard old.splitter old.outbox.output piece running c.requires.sound.fields c.requires.sound.holds (λ i. omega (arith, c.type_inv.piece i)) in
     let completes : Completes old.splitter (take octets piece) frame = whole.frame in
     let law = c.pieces_are_split.ensures.frame role config (endpoint_view old) old.splitter piece octets frame in
-    let after : c.take_whole.new.self ≡ after_taking old.splitter piece octets (Some (Piece c.in-Some.frame)) = whole.after in
     frame_heard role config said (endpoint_view old) piece _ octets frame _ _ c.judged_is_said.ensures.one running
     (law by whole.within completes)
     (whole_of old.splitter (endpoint_view old) (take octets piece) frame by.splits completes)
