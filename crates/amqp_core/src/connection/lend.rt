@@ -300,8 +300,8 @@ impl Connection {
         requires taking { takes_frames (phase_at self.old.stage) ≡ true }
         requires staged { outbox.old.staged ≡ [] }
         requires says { reading_view reading ≡ says (lent frame) }
-        ensures receives { ReceivesLent self.old outbox.old.output heard.old (lent frame.entry) result self.new outbox.new
-            heard.new }
+        ensures receives { ReceivesLent self.old outbox.old.output heard.old (lent frame.entry) result self.new
+            outbox.new heard.new }
         ensures told { IfOk result (λ report. report_lent (lent frame.entry).channel (says (lent frame.entry)) report
             ≡ lent_by self.old (lent frame.entry)) }
         ensures tally { tally_view tally.new
@@ -337,8 +337,8 @@ impl Connection {
         requires taking { takes_frames (phase_at self.old.stage) ≡ true }
         requires staged { outbox.old.staged ≡ [] }
         requires says { reading_view reading ≡ says (lent frame) }
-        ensures receives { ReceivesLent self.old outbox.old.output heard.old (lent frame.entry) result self.new outbox.new
-            heard.new }
+        ensures receives { ReceivesLent self.old outbox.old.output heard.old (lent frame.entry) result self.new
+            outbox.new heard.new }
         ensures octets { IfOk result (λ step. step.octets ≡ frame_length (lent frame.entry)) }
         ensures told { IfOk result (λ step. (given : Option Frame) → came_lent step.came given
             ≡ lent_by self.old (lent frame.entry)) }
@@ -368,8 +368,8 @@ impl Connection {
         requires zero { phase_at self.old.stage ≡ Running → (lent frame).channel ≡ 0 }
         requires staged { outbox.old.staged ≡ [] }
         requires says { reading_view reading ≡ says (lent frame) }
-        ensures receives { ReceivesLent self.old outbox.old.output heard.old (lent frame.entry) result self.new outbox.new
-            heard.new }
+        ensures receives { ReceivesLent self.old outbox.old.output heard.old (lent frame.entry) result self.new
+            outbox.new heard.new }
         ensures told { IfOk result (λ report. report_lent (lent frame.entry).channel (says (lent frame.entry)) report
             ≡ lent_by self.old (lent frame.entry)) }
         ensures tally { tally_view tally.new
