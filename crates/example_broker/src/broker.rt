@@ -293,7 +293,7 @@ impl Program for Broker {
         }
     }
 
-    /// What fails in it for want of memory is tried again in the next.
+    /// What fails in it, since memory was refused, is tried again in the next.
     fn turn(&mut self, _: &impl Print, ticks: bool, room: &mut [u8]) -> anyhow::Result<()> {
         let bound = if self.is_short { BOUND / 4 * 3 } else { BOUND };
         self.is_short = self.held.get() > bound;

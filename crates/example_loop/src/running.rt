@@ -48,7 +48,7 @@ pub fn serve<R: Net<Stream = TcpStream, Listener = TcpListener> + Clock + Print>
             let Some((number, stream)) = sockets.accept() else {
                 break;
             };
-            // one that can't be served, for want of memory or of a socket, is dropped
+            // one that can't be served, since memory or a socket was refused, is dropped
             drop(program.add(&sockets, number, stream));
         }
         program.turn(rt, ticks, &mut room)?;
