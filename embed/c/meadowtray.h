@@ -564,9 +564,9 @@ typedef struct mt_event {
  * ends before that, all of it is taken. Call it again with the rest of the piece until none is left. Replies wait in
  * the output, which has no limit: don't feed while it is longer than a bound of your own.
  *
- * MT_END_PEER and the statuses beside it are the end's own faults; nothing is taken then. With MT_OUT_OF_MEMORY, where
- * `kind` isn't MT_EVENT_NONE, `taken` octets were taken, and the event is there: mt_end_event shows it. `piece` may be
- * null where `length` is 0. */
+ * MT_END_PEER and the statuses beside it are the end's own faults; nothing is told then. With MT_OUT_OF_MEMORY nothing
+ * was taken, and the piece may be fed again; after MT_END_OUT_OF_MEMORY each feed is MT_END_FAILED. `piece` may be null
+ * where `length` is 0. */
 uint32_t mt_end_feed(mt_end *end, const uint8_t *piece, size_t length, mt_event *event);
 
 /* Shows the event of the last mt_end_feed once more. An end that lends keeps none: MT_NO_ROOM. */
@@ -622,7 +622,7 @@ typedef struct mt_content {
 
 uint32_t mt_content_open(mt_content *content);
 
-/* Begins a content through an end that lends (MT_OTHER_KIND): by the payloads of its method and of its content header,
+/* Begins a content: by the payloads of its method and of its content header,
  * whose `body_size` says how long the body will be. `octets` are the frames of both; those of the body come by
  * mt_content_write, as its octets come:
  *
@@ -648,7 +648,7 @@ uint32_t mt_content_write(mt_content *content, const uint8_t *part, size_t lengt
  * mt_end_send sends them, and without the copy. pieces[0] and so on are to be written in their order, all of them before
  * anything else that the end puts: they count as put and as written. `count` says how many there are.
  *
- * It is for an end that lends (MT_OTHER_KIND). MT_WAITS, MT_MISFIT and the refusals are as at mt_end_begin_content, and
+ * MT_WAITS, MT_MISFIT and the refusals are as at mt_end_begin_content, and
  * MT_MISFIT stands for a header that says another size than the body's, too. MT_NO_ROOM where `capacity` is less than
  * mt_end_pieces answers. With each of these nothing is lent, and the end is as it was. MT_CUT would say that it was less
  * than was wanted all the same, and doesn't come.

@@ -37,7 +37,7 @@ use Rattle.std_heap.proofs.Global.TheLaws.{the_row_laws as heap_laws}
 use Rattle.std_heap.specs.contracts.Global.{the_row as heap}
 use Rattle.std_heap.specs.contracts.GlobalAllocator.TheImpl.{ghosts}
 use Rattle.std_heap.proofs.Handle.{heap_val, heap_Tells}
-use Rattle.amqp_handle.specs.declared.kept.HeldEnd.TheVariants.{Client, Server, LendingClient, LendingServer}
+use Rattle.amqp_handle.specs.declared.kept.HeldEnd.TheVariants.{Client, Server}
 use Rattle.amqp_handle.specs.EndSlots.{slot_owns}
 use Rattle.amqp_handle.specs.contracts.kept.HeldEnd.{the_row as held}
 use Rattle.amqp_handle.proofs.EndOpened.{is_owner}
@@ -84,12 +84,19 @@ taken = Tuple Taken
 abbrev pub taken_word : Val → ℕ → ℕ → Val
 taken_word w b o = vstruct (vcons w (vcons (room_word b o) vnil))
 
+-- what holds whether or not something is gathered
+by_gathering : {A : Type 0} (P : Option A → Type 0) → P None → ((a : A) → P (Some a)) → (g : Option A) → P g
+by_gathering P none some None = none
+by_gathering P none some (Some a) = some a
+
 -- nothing is said of a held value that was given away
 pub held_blank : (x : held.Denot) (w : Last (held.exit yes) x) → T (blank (left (held.exit yes) x w))
-held_blank (Client kept) w = tt
-held_blank (Server kept) w = tt
-held_blank (LendingClient kept) w = tt
-held_blank (LendingServer kept) w = tt
+held_blank (Client kept) w =
+    by_gathering (λ g. (w : Last (held.exit yes) (Client (record kept { gathering = g })))
+    → T (blank (left (held.exit yes) (Client (record kept { gathering = g })) w))) (λ w. tt) (λ g w. tt) kept.gathering w
+held_blank (Server kept) w =
+    by_gathering (λ g. (w : Last (held.exit yes) (Server (record kept { gathering = g })))
+    → T (blank (left (held.exit yes) (Server (record kept { gathering = g })) w))) (λ w. tt) (λ g w. tt) kept.gathering w
 
 both : (x y : Bool) → T x → T y → T (x && y)
 both true y p q = q

@@ -8,6 +8,7 @@
 mod content;
 mod end_slot;
 mod faults;
+mod gathering;
 mod held;
 mod kept;
 mod slot;
@@ -15,6 +16,7 @@ mod slot;
 pub use crate::content::Content;
 pub use crate::end_slot::EndSlot;
 pub use crate::faults::HandleFault;
+pub use crate::gathering::{Gathering, OutOfMemory, Parts, Place, Said};
 pub use crate::held::Held;
-pub use crate::kept::{HeldEnd, Kept, Place};
+pub use crate::kept::{HeldEnd, Kept};
 pub use crate::slot::Slot;

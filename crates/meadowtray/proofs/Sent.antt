@@ -11,21 +11,22 @@ use Rattle.amqp_method.specs.Properties.{ContentHeader, header, EncodesHeader}
 use Rattle.amqp_method.specs.declared.faults.MethodFault.{MethodFault}
 use Rattle.amqp_method.specs.declared.faults.MethodFaultKind.{MethodFaultKind}
 use Rattle.amqp_method.specs.declared.faults.MethodFaultKind.TheVariants as kinds
+use Rattle.amqp_core.specs.declared.roles.Role.{Ghosts}
+use Rattle.amqp_core.specs.declared.stream.StreamEnd.{StreamEnd}
 use Rattle.amqp_handle.specs.declared.kept.Kept.{Kept}
 use Rattle.meadowtray.specs.Messages.{unread_as, unread_by, NotContent, NotLetter, NotRead}
 use Rattle.meadowtray.specs.Sending.{SendsCall, SendsKept, SizedOne}
 use Rattle.meadowtray.specs.Sending.SendsOne.{unmade, sent}
 use Rattle.meadowtray.specs.Sending.SizedOne.{other, sized}
-use Rattle.meadowtray.specs.declared.ends.any_end.AnyEnd.{Ghosts}
 use Rattle.meadowtray.specs.declared.ends.messages.Unmade.{Unmade}
 use Rattle.meadowtray.specs.declared.ends.messages.Unmade.TheVariants.{Unread, Misfit, OutOfMemory}
 
 -- a content, once its header is read
-pub of_sized : {E : Type 0} (of : Ghosts E) (old : Kept E) (channel : ℕ) (call : Call) (h : ContentHeader) (octets body : List ℕ)
-    (status : ℕ) (new : Kept E) → has_content call.kind ≡ true → EncodesHeader h octets → SizedOne of old channel call h body status new
-    → SendsCall of old channel call octets body status new
-of_sized of old channel call h octets body status new follows encodes (other differs is same) = unmade Misfit (inl (h, encodes, differs)) is same
-of_sized of old channel call h octets body status new follows encodes (sized is kept) =
+pub of_sized : {R H : Type 0} {G : Ghosts R H} (old : Kept (StreamEnd R H G)) (channel : ℕ) (call : Call) (h : ContentHeader) (octets body : List ℕ)
+    (status : ℕ) (new : Kept (StreamEnd R H G)) → has_content call.kind ≡ true → EncodesHeader h octets → SizedOne old channel call h body status new
+    → SendsCall old channel call octets body status new
+of_sized old channel call h octets body status new follows encodes (other differs is same) = unmade Misfit (inl (h, encodes, differs)) is same
+of_sized old channel call h octets body status new follows encodes (sized is kept) =
     sent (letter_with call h.properties body)
     (record {
       method_is = refl;
@@ -73,12 +74,12 @@ not_letter method header body Misfit not = not
 not_letter method header body OutOfMemory not = tt
 
 -- a message, once its method is read
-pub of_call : {E : Type 0} (of : Ghosts E) (old : Kept E) (channel : ℕ) (call : Call) (method header body : List ℕ) (status : ℕ)
-    (new : Kept E) → EncodesMethod call method → SendsCall of old channel call header body status new
-    → SendsKept of old channel method header body status new
-of_call of old channel call method header body status new encodes (unmade fault not is same) =
+pub of_call : {R H : Type 0} {G : Ghosts R H} (old : Kept (StreamEnd R H G)) (channel : ℕ) (call : Call) (method header body : List ℕ) (status : ℕ)
+    (new : Kept (StreamEnd R H G)) → EncodesMethod call method → SendsCall old channel call header body status new
+    → SendsKept old channel method header body status new
+of_call old channel call method header body status new encodes (unmade fault not is same) =
     unmade fault (not_letter method header body fault not) is same
-of_call of old channel call method header body status new encodes (sent letter is kept) =
+of_call old channel call method header body status new encodes (sent letter is kept) =
     sent letter
     (record {
       method_is = subst (λ (c : Call). EncodesMethod c method) (sym is.method_is) encodes;

@@ -18,10 +18,10 @@ use Rattle.amqp_handle.specs.declared.content.Content.{Content}
 use Rattle.amqp_handle.specs.declared.held.Held.{Held}
 use Rattle.amqp_handle.specs.declared.held.Held.TheVariants as held
 use Rattle.amqp_handle.specs.declared.kept.HeldEnd.{HeldEnd}
-use Rattle.amqp_handle.specs.declared.kept.HeldEnd.TheVariants.{Client, Server, LendingClient, LendingServer}
 use Rattle.amqp_handle.specs.declared.kept.Kept.{Kept}
 use Rattle.meadowtray.specs.Contents.{body_left}
 use Rattle.meadowtray.specs.EndNumbers.{ask_status}
+use Rattle.meadowtray.specs.HeldEnds.{Does}
 use Rattle.meadowtray.specs.Messages.{unmade_status, NotRead}
 use Rattle.meadowtray.specs.declared.ends.messages.Unmade.{Unmade}
 
@@ -47,8 +47,8 @@ pub record BeginsKept {R H : Type 0} {G : Ghosts R H} (old : Kept (StreamEnd R H
   pub left : IfOk answer (λ writer. octets_left writer ≡ size)
   -- the answer is told, and the writer is kept
   pub told : ToldBegun answer status before after
-  -- the events stay
-  pub places : new.places ≡ old.places
+  -- what is gathered stays
+  pub gathering : new.gathering ≡ old.gathering
 
 -- a content with this method: its header can't be read, and nothing changes; or it can, and the content is begun
 pub data BeginsCall {R H : Type 0} {G : Ghosts R H} (old : Kept (StreamEnd R H G)) (before : Content)
@@ -93,17 +93,9 @@ BeginsWith old (Some (held.Content c)) channel method header status new (Some (h
 BeginsWith old (Some (held.Content c)) channel method header status new (Some (held.Content now)) =
     BeginsOne old c channel method header status new now
 
--- by the end of an open handle that lends; one that gathers begins none
+-- by the end of an open handle
 abbrev pub BeginsEnd : Option HeldEnd → Option Held → ℕ → (method_octets header_octets : List ℕ) → ℕ
     → Option HeldEnd → Option Held → Type 0
-BeginsEnd None before channel method header status new after = (status ≡ 1) × (new ≡ None) × (after ≡ before)
-BeginsEnd (Some (Client kept)) before channel method header status new after =
-    (status ≡ 3) × (new ≡ Some (Client kept)) × (after ≡ before)
-BeginsEnd (Some (Server kept)) before channel method header status new after =
-    (status ≡ 3) × (new ≡ Some (Server kept)) × (after ≡ before)
-BeginsEnd (Some (LendingClient kept)) before channel method header status (Some (LendingClient now)) after =
-    BeginsWith kept before channel method header status now after
-BeginsEnd (Some (LendingClient kept)) before channel method header status new after = ⊥
-BeginsEnd (Some (LendingServer kept)) before channel method header status (Some (LendingServer now)) after =
-    BeginsWith kept before channel method header status now after
-BeginsEnd (Some (LendingServer kept)) before channel method header status new after = ⊥
+BeginsEnd old before channel method header status new after =
+    Does status (λ R H G kept now. BeginsWith kept before channel method header status now after) old new
+    × (old ≡ None → after ≡ before)

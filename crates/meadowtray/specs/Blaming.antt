@@ -7,6 +7,7 @@ use Rattle.amqp_method.specs.declared.faults.MethodFault.{MethodFault}
 use Rattle.amqp_model.specs.End.Closes as closes
 use Rattle.amqp_core.specs.End.Counters.{Counters}
 use Rattle.amqp_core.specs.Faults.Blamed.{blame_view, rule_code}
+use Rattle.amqp_core.specs.Stream.View.{counters_of}
 use Rattle.amqp_core.specs.declared.blame.Blame.{Blame}
 use Rattle.amqp_core.specs.declared.blame.Rule.{Rule}
 use Rattle.amqp_core.specs.declared.blame.Rule.TheVariants as rules
@@ -91,7 +92,7 @@ pub data ToldBlame (counters : Counters) (status : ℕ) (out : BlameTold) : Type
 
 -- the end of an open handle tells it, and stays as it is
 abbrev pub BlamesEnd : Option HeldEnd → ℕ → BlameTold → Option HeldEnd → Type 0
-BlamesEnd old status out new = Answers status (λ E of end. ToldBlame (of.counters end) status out) old new
+BlamesEnd old status out new = Answers status (λ R H G kept. ToldBlame (counters_of kept.end.value) status out) old new
 
 -- ---- as a line
 
@@ -111,5 +112,5 @@ pub data WritesLineOf (counters : Counters) (old : List ℕ) (status : ℕ) (out
 -- the end of an open handle, which stays as it is
 abbrev pub LineOfEnd : Option HeldEnd → List ℕ → ℕ → Written → List ℕ → Option HeldEnd → Type 0
 LineOfEnd old room status out now new =
-    Answers status (λ E of end. WritesLineOf (of.counters end) room status out now) old new
+    Answers status (λ R H G kept. WritesLineOf (counters_of kept.end.value) room status out now) old new
     × (old ≡ None → now ≡ room)

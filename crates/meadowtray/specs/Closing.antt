@@ -5,7 +5,10 @@ use Rattle.amqp_method.specs.declared.kinds.Kind.{Kind}
 use Rattle.amqp_model.specs.End.Asks as asks
 use Rattle.amqp_model.specs.End.Asks.{Ask}
 use Rattle.amqp_model.specs.End.Closes.{cause_of}
+use Rattle.amqp_core.specs.Stream.Asks.{StreamAsked}
 use Rattle.amqp_core.specs.declared.faults.AskFault.{AskFault}
+use Rattle.amqp_core.specs.declared.roles.Role.{Ghosts}
+use Rattle.amqp_core.specs.declared.stream.StreamEnd.{StreamEnd}
 use Rattle.amqp_handle.specs.declared.kept.HeldEnd.{HeldEnd}
 use Rattle.amqp_handle.specs.declared.kept.Kept.{Kept}
 use Rattle.meadowtray.specs.EndAsks.{IsTooLong}
@@ -13,7 +16,6 @@ use Rattle.meadowtray.specs.EndNumbers.{asked_status}
 use Rattle.meadowtray.specs.HeldEnds.{Does}
 use Rattle.meadowtray.specs.Messages.{unmade_status}
 use Rattle.meadowtray.specs.Writing.{kind_numbered}
-use Rattle.meadowtray.specs.declared.ends.any_end.AnyEnd.{Ghosts}
 use Rattle.meadowtray.specs.declared.ends.closing.Close as code
 use Rattle.meadowtray.specs.declared.ends.closing.Close.TheVariants.{Channel, Connection}
 use Rattle.meadowtray.specs.declared.ends.closing.GivenClose.{GivenClose}
@@ -42,23 +44,23 @@ NotClose given (Unread fault) = ⊥
 NotClose given Misfit = (close_given given ≡ None) ⊎ IsTooLong given.text.now
 NotClose given OutOfMemory = Unit {0}
 
-pub record ClosedKept {E : Type 0} (of : Ghosts E) (old : Kept E) (close : Ask) (status : ℕ)
-    (new : Kept E) : Type 0 where
+pub record ClosedKept {R H : Type 0} {G : Ghosts R H} (old : Kept (StreamEnd R H G)) (close : Ask) (status : ℕ)
+    (new : Kept (StreamEnd R H G)) : Type 0 where
   -- the end is asked, answers this, and is left so
   pub answer : Result (Unit {0}) AskFault
-  pub asked : of.asked old.end.value close answer new.end.value
+  pub asked : StreamAsked old.end.value close answer new.end.value
   -- the answer is told
   pub told : status ≡ asked_status answer
-  -- the events stay
-  pub places : new.places ≡ old.places
+  -- what is gathered stays
+  pub gathering : new.gathering ≡ old.gathering
 
 -- C means no close, and the end stays as it is; or it means one, and the end is asked it
-pub data ClosesKept {E : Type 0} (of : Ghosts E) (old : Kept E) (given : GivenClose) (status : ℕ)
-    (new : Kept E) : Type 0 where
+pub data ClosesKept {R H : Type 0} {G : Ghosts R H} (old : Kept (StreamEnd R H G)) (given : GivenClose) (status : ℕ)
+    (new : Kept (StreamEnd R H G)) : Type 0 where
   unmade : (fault : Unmade) → NotClose given fault → status ≡ unmade_status fault → new ≡ old
-      → ClosesKept of old given status new
-  made : (close : Ask) → close_given given ≡ Some close → ClosedKept of old close status new
-      → ClosesKept of old given status new
+      → ClosesKept old given status new
+  made : (close : Ask) → close_given given ≡ Some close → ClosedKept old close status new
+      → ClosesKept old given status new
 
 abbrev pub ClosesEnd : Option HeldEnd → GivenClose → ℕ → Option HeldEnd → Type 0
-ClosesEnd old given status new = Does status (λ E of kept now. ClosesKept of kept given status now) old new
+ClosesEnd old given status new = Does status (λ R H G kept now. ClosesKept kept given status now) old new

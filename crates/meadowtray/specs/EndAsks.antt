@@ -5,13 +5,16 @@ use Rattle.std.specs.Prelude.{None, Result, Ok, Err, ◌⊎◌, unwrap_or}
 use Rattle.amqp_model.specs.End.Asks.{Ask, Open, Flow, CloseChannel, Close, Blocked, Unblocked}
 use Rattle.amqp_model.specs.End.Closes.{no_cause}
 use Rattle.amqp_model.specs.End.Controls.{Control, Beat, Admit, Refuse, AnswerStart}
+use Rattle.amqp_core.specs.Stream.Asks.{StreamAnswersNumber, StreamAsked}
+use Rattle.amqp_core.specs.Stream.Controls.{StreamControlled}
 use Rattle.amqp_core.specs.declared.faults.AskFault.{AskFault}
+use Rattle.amqp_core.specs.declared.roles.Role.{Ghosts}
+use Rattle.amqp_core.specs.declared.stream.StreamEnd.{StreamEnd}
 use Rattle.amqp_handle.specs.declared.kept.HeldEnd.{HeldEnd}
 use Rattle.amqp_handle.specs.declared.kept.Kept.{Kept}
 use Rattle.meadowtray.specs.EndNumbers.{asked_status, ask_status}
 use Rattle.meadowtray.specs.HeldEnds.{Does}
 use Rattle.meadowtray.specs.Messages.{unmade_status}
-use Rattle.meadowtray.specs.declared.ends.any_end.AnyEnd.{Ghosts}
 use Rattle.meadowtray.specs.declared.ends.asking.GivenAsk.{GivenAsk}
 use Rattle.meadowtray.specs.declared.ends.controlling.GivenControl.{GivenControl}
 use Rattle.meadowtray.specs.declared.ends.messages.Unmade.{Unmade}
@@ -51,26 +54,27 @@ abbrev pub ToldAsked : Result (Option ℕ) AskFault → ℕ → ℕ → Type 0
 ToldAsked (Ok number) status channel = (status ≡ 0) × (channel ≡ unwrap_or number 0)
 ToldAsked (Err fault) status channel = status ≡ ask_status fault
 
-pub record AskedKept {E : Type 0} (of : Ghosts E) (old : Kept E) (ask : Ask) (status channel : ℕ)
-    (new : Kept E) : Type 0 where
+pub record AskedKept {R H : Type 0} {G : Ghosts R H} (old : Kept (StreamEnd R H G)) (ask : Ask) (status channel : ℕ)
+    (new : Kept (StreamEnd R H G)) : Type 0 where
   -- the end is asked, answers this, and is left so
   pub answer : Result (Option ℕ) AskFault
-  pub asked : of.answered old.end.value ask answer new.end.value
+  pub asked : StreamAsked old.end.value ask answer new.end.value
+  pub number : StreamAnswersNumber old.end.value ask answer
   -- the answer is told
   pub told : ToldAsked answer status channel
-  -- the events stay
-  pub places : new.places ≡ old.places
+  -- what is gathered stays
+  pub gathering : new.gathering ≡ old.gathering
 
 -- C means no ask, and the end stays as it is; or it means one, and the end is asked it
-pub data AsksOne {E : Type 0} (of : Ghosts E) (old : Kept E) (given : GivenAsk) (status channel : ℕ)
-    (new : Kept E) : Type 0 where
+pub data AsksOne {R H : Type 0} {G : Ghosts R H} (old : Kept (StreamEnd R H G)) (given : GivenAsk) (status channel : ℕ)
+    (new : Kept (StreamEnd R H G)) : Type 0 where
   unmade : (fault : Unmade) → NotAsk given fault → status ≡ unmade_status fault → new ≡ old
-      → AsksOne of old given status channel new
-  made : (ask : Ask) → ask_given given ≡ Some ask → AskedKept of old ask status channel new
-      → AsksOne of old given status channel new
+      → AsksOne old given status channel new
+  made : (ask : Ask) → ask_given given ≡ Some ask → AskedKept old ask status channel new
+      → AsksOne old given status channel new
 
 abbrev pub AsksEnd : Option HeldEnd → GivenAsk → ℕ → ℕ → Option HeldEnd → Type 0
-AsksEnd old given status channel new = Does status (λ E of kept now. AsksOne of kept given status channel now) old new
+AsksEnd old given status channel new = Does status (λ R H G kept now. AsksOne kept given status channel now) old new
 
 -- ---- heartbeats, and what an application decides in the handshake
 
@@ -89,27 +93,27 @@ NotControl given (Unread fault) = ⊥
 NotControl given Misfit = (control_given given ≡ None) ⊎ (IsTooLong given.text.now ⊎ IsTooLong given.locale.now)
 NotControl given OutOfMemory = Unit {0}
 
-pub record ControlledKept {E : Type 0} (of : Ghosts E) (old : Kept E) (control : Control) (status : ℕ)
-    (new : Kept E) : Type 0 where
+pub record ControlledKept {R H : Type 0} {G : Ghosts R H} (old : Kept (StreamEnd R H G)) (control : Control) (status : ℕ)
+    (new : Kept (StreamEnd R H G)) : Type 0 where
   -- the end answers this, and is left so
   pub answer : Result (Unit {0}) AskFault
-  pub controlled : of.controlled old.end.value control answer new.end.value
+  pub controlled : StreamControlled old.end.value control answer new.end.value
   -- the answer is told
   pub told : status ≡ asked_status answer
-  -- the events stay
-  pub places : new.places ≡ old.places
+  -- what is gathered stays
+  pub gathering : new.gathering ≡ old.gathering
 
 -- C means none, and the end stays as it is; or it means one, which is done
-pub data ControlsOne {E : Type 0} (of : Ghosts E) (control : Option Control)
-    (Not : Unmade → Type 0) (old : Kept E) (status : ℕ) (new : Kept E) : Type 0 where
+pub data ControlsOne {R H : Type 0} {G : Ghosts R H} (control : Option Control)
+    (Not : Unmade → Type 0) (old : Kept (StreamEnd R H G)) (status : ℕ) (new : Kept (StreamEnd R H G)) : Type 0 where
   unmade : (fault : Unmade) → Not fault → status ≡ unmade_status fault → new ≡ old
-      → ControlsOne of control Not old status new
-  made : (meant : Control) → control ≡ Some meant → ControlledKept of old meant status new
-      → ControlsOne of control Not old status new
+      → ControlsOne control Not old status new
+  made : (meant : Control) → control ≡ Some meant → ControlledKept old meant status new
+      → ControlsOne control Not old status new
 
-abbrev pub ControlsKept : {E : Type 0} → Ghosts E → (old : Kept E) → GivenControl → ℕ
-    → (new : Kept E) → Type 0
-ControlsKept of old given status new = ControlsOne of (control_given given) (NotControl given) old status new
+abbrev pub ControlsKept : {R H : Type 0} {G : Ghosts R H} → (old : Kept (StreamEnd R H G)) → GivenControl → ℕ
+    → (new : Kept (StreamEnd R H G)) → Type 0
+ControlsKept old given status new = ControlsOne (control_given given) (NotControl given) old status new
 
 abbrev pub ControlsEnd : Option HeldEnd → GivenControl → ℕ → Option HeldEnd → Type 0
-ControlsEnd old given status new = Does status (λ E of kept now. ControlsKept of kept given status now) old new
+ControlsEnd old given status new = Does status (λ R H G kept now. ControlsKept kept given status now) old new

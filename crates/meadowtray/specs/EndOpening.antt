@@ -1,5 +1,5 @@
 -- A handle opened with an end: what C says of it, what the end is then set up with, and why it isn't opened.
-use Rattle.std.specs.Prelude.{true, false, ◌≡◌, ◌<◌, ℕ, List, [], ◌∷◌, ◌++◌, length, Option, Some}
+use Rattle.std.specs.Prelude.{Box, Bool, true, false, ◌≡◌, ◌<◌, ℕ, List, [], ◌∷◌, ◌++◌, length, Option, Some}
 use Rattle.std.specs.Prelude.{None, ◌⊎◌}
 use Rattle.amqp_value.specs.Whole.{table_encoded}
 use Rattle.amqp_model.specs.End.Fitting.{config_fault}
@@ -13,12 +13,16 @@ use Rattle.amqp_core.specs.declared.end.End.{End}
 use Rattle.amqp_core.specs.declared.roles.Role.{Ghosts}
 use Rattle.amqp_core.specs.declared.settings.Settings.{Settings}
 use Rattle.amqp_core.specs.declared.stream.StreamEnd.{StreamEnd}
+use Rattle.amqp_handle.specs.Gathered.{coming, counts}
+use Rattle.amqp_handle.specs.declared.gathering.Gathering.{Gathering}
+use Rattle.amqp_handle.specs.declared.gathering.Place.{Place}
+use Rattle.amqp_handle.specs.declared.gathering.Said.TheVariants.{Nothing}
 use Rattle.amqp_handle.specs.declared.kept.HeldEnd.{HeldEnd}
-use Rattle.amqp_handle.specs.declared.kept.HeldEnd.TheVariants.{Client, Server, LendingClient, LendingServer}
+use Rattle.amqp_handle.specs.declared.kept.HeldEnd.TheVariants.{Client, Server}
 use Rattle.amqp_handle.specs.declared.kept.Kept.{Kept}
-use Rattle.amqp_handle.specs.declared.kept.Place.{Place}
 use Rattle.meadowtray.specs.CodecStatuses.{value_status}
 use Rattle.meadowtray.specs.EndNumbers.{config_status}
+use Rattle.meadowtray.specs.HeldEnds.{Does}
 use Rattle.meadowtray.specs.Writing.{NotCounted, NotTable}
 use Rattle.meadowtray.specs.declared.codec.owned.ArgFault.{ArgFault}
 use Rattle.meadowtray.specs.declared.codec.owned.ArgFault.TheVariants as arg
@@ -72,19 +76,25 @@ pub record BeginsAs {R H : Type 0} {G : Ghosts R H} (set_up : (role : Role) × m
   -- and it begins with them
   pub begins : IsNewEnd settings end
 
--- an end that begins so, without a place for an event
-pub record Gathers {R H : Type 0} {G : Ghosts R H} (set_up : (role : Role) × model.Config role)
-    (kept : Kept (End R H G)) : Type 0 where
-  pub begins : BeginsAs set_up kept.end.value
-  pub places : kept.places.items ≡ []
+-- nothing is gathered yet
+abbrev pub IsEmpty : Gathering → Type 0
+IsEmpty gathering =
+    (gathering.places.items ≡ []) × ((channel : ℕ) → coming gathering channel ≡ None) × (counts gathering ≡ record { heads = 0; bodies = 0 })
+    × (gathering.is_lost ≡ false)
 
--- one that such an end turns into, which lends
-pub record Lends {R H : Type 0} {G : Ghosts R H} (set_up : (role : Role) × model.Config role)
+-- what is kept beside an end: nothing where it lends, else what it gathers
+abbrev pub GathersAs : (lends : Bool) → Option (Box Gathering) → Type 0
+GathersAs true gathering = gathering ≡ None
+GathersAs false None = ⊥
+GathersAs false (Some gathering) = IsEmpty gathering.value
+
+-- an end that one which begins so turns into, and what it gathers
+pub record Holds {R H : Type 0} {G : Ghosts R H} (set_up : (role : Role) × model.Config role) (lends : Bool)
     (kept : Kept (StreamEnd R H G)) : Type 0 where
   pub end : End R H G
   pub begins : BeginsAs set_up end
   pub turns : TurnsLending end kept.end.value
-  pub places : kept.places.items ≡ []
+  pub gathers : GathersAs lends kept.gathering
 
 -- why nothing is made of what is given: the properties aren't a table, or a text is longer than 255 octets
 abbrev pub NotClientHello : ClientSettings → ArgFault → Type 0
@@ -116,16 +126,12 @@ StaysClosed Not status = (status ≡ 4) ⊎ ((fault : OpenFault) × Not fault ×
 
 -- what a client that is set up so is held as
 abbrev pub HoldsClient : ClientSettings → HeldEnd → Type 0
-HoldsClient given (Client kept) = (given.lends ≡ false) × Gathers (client_set_up given) kept
-HoldsClient given (LendingClient kept) = (given.lends ≡ true) × Lends (client_set_up given) kept
+HoldsClient given (Client kept) = Holds (client_set_up given) given.lends kept
 HoldsClient given (Server kept) = ⊥
-HoldsClient given (LendingServer kept) = ⊥
 
 abbrev pub HoldsServer : ServerSettings → HeldEnd → Type 0
-HoldsServer given (Server kept) = (given.lends ≡ false) × Gathers (server_set_up given) kept
-HoldsServer given (LendingServer kept) = (given.lends ≡ true) × Lends (server_set_up given) kept
+HoldsServer given (Server kept) = Holds (server_set_up given) given.lends kept
 HoldsServer given (Client kept) = ⊥
-HoldsServer given (LendingClient kept) = ⊥
 
 -- a closed handle is opened with this, or stays closed; an open one stays as it is
 abbrev Opens : (HeldEnd → Type 0) → (OpenFault → Type 0) → (old : Option HeldEnd) → ℕ
@@ -141,27 +147,28 @@ abbrev pub OpensServer : Option HeldEnd → ServerSettings → ℕ → Option He
 OpensServer old given status new = Opens (HoldsServer given) (NotServer given) old status new
 
 -- what comes of a place that is asked for
-pub data MakesPlace (old : List Place) (place status : ℕ) (new : List Place) : Type 0 where
+pub data MakesPlace (old : Gathering) (place status : ℕ) (new : Gathering) : Type 0 where
   -- it was there
-  there : status ≡ 0 → place < length old → new ≡ old → MakesPlace old place status new
-  -- it is the next, and is made, without an event
-  made : (next : Place) → status ≡ 0 → place ≡ length old → next.event ≡ None
-      → new ≡ old ++ (next ∷ []) → MakesPlace old place status new
+  there : status ≡ 0 → place < length old.places.items → new ≡ old → MakesPlace old place status new
+  -- it is the next, and is made, and nothing is said there
+  made : (next : Place) → status ≡ 0 → place ≡ length old.places.items → next.said ≡ Nothing
+      → new.places.items ≡ old.places.items ++ (next ∷ []) → new ≡ record old { places = new.places }
+      → MakesPlace old place status new
   -- memory is refused
   refused : status ≡ 4 → new ≡ old → MakesPlace old place status new
   -- it isn't the next
-  past : status ≡ 7 → length old < place → new ≡ old → MakesPlace old place status new
+  past : status ≡ 7 → length old.places.items < place → new ≡ old → MakesPlace old place status new
+
+-- an end that lends has no places
+abbrev pub MakesIn : Option (Box Gathering) → ℕ → ℕ → Option (Box Gathering) → Type 0
+MakesIn None place status new = (status ≡ 3) × (new ≡ None)
+MakesIn (Some old) place status None = ⊥
+MakesIn (Some old) place status (Some new) = MakesPlace old.value place status new.value
 
 -- the end stays as it is
-abbrev MakesOne : {E : Type 0} → (old : Kept E) → ℕ → ℕ → (new : Kept E) → Type 0
-MakesOne old place status new = MakesPlace old.places.items place status new.places.items × (new.end ≡ old.end)
+abbrev pub MakesOne : {R H : Type 0} {G : Ghosts R H} → (old : Kept (StreamEnd R H G)) → ℕ → ℕ
+    → (new : Kept (StreamEnd R H G)) → Type 0
+MakesOne old place status new = MakesIn old.gathering place status new.gathering × (new.end ≡ old.end)
 
--- one that lends has no places
 abbrev pub MakesPlaceAt : Option HeldEnd → ℕ → ℕ → Option HeldEnd → Type 0
-MakesPlaceAt None place status new = (status ≡ 1) × (new ≡ None)
-MakesPlaceAt (Some (Client kept)) place status (Some (Client now)) = MakesOne kept place status now
-MakesPlaceAt (Some (Client kept)) place status new = ⊥
-MakesPlaceAt (Some (Server kept)) place status (Some (Server now)) = MakesOne kept place status now
-MakesPlaceAt (Some (Server kept)) place status new = ⊥
-MakesPlaceAt (Some (LendingClient kept)) place status new = (status ≡ 3) × (new ≡ Some (LendingClient kept))
-MakesPlaceAt (Some (LendingServer kept)) place status new = (status ≡ 3) × (new ≡ Some (LendingServer kept))
+MakesPlaceAt old place status new = Does status (λ R H G kept now. MakesOne kept place status now) old new

@@ -6,13 +6,16 @@ use Rattle.amqp_method.specs.declared.kinds.Kind.{Kind}
 use Rattle.amqp_model.specs.End.Closes.{Cause}
 use Rattle.amqp_model.specs.End.Heard.{Heard}
 use Rattle.amqp_core.specs.Heard.View.{kept_of_kind}
+use Rattle.amqp_core.specs.Stream.View.{heard_in}
+use Rattle.amqp_core.specs.declared.roles.Role.{Ghosts}
+use Rattle.amqp_core.specs.declared.stream.StreamEnd.{StreamEnd}
 use Rattle.amqp_handle.specs.declared.kept.HeldEnd.{HeldEnd}
 use Rattle.amqp_handle.specs.declared.kept.Kept.{Kept}
+use Rattle.meadowtray.specs.EndWrites.{Forgot}
 use Rattle.meadowtray.specs.HeldEnds.{Answers, Does}
 use Rattle.meadowtray.specs.Writing.{kind_numbered, ToldWrite, Writes}
 use Rattle.meadowtray.specs.declared.codec.writing.WriteFault.{WriteFault}
 use Rattle.meadowtray.specs.declared.codec.writing.Written.{Written}
-use Rattle.meadowtray.specs.declared.ends.any_end.AnyEnd.{Ghosts}
 use Rattle.meadowtray.specs.declared.ends.hearing.CauseTold.{CauseTold}
 
 -- the payload of a method is put into the room, or the room stays
@@ -35,15 +38,15 @@ WritesKind (Some kind) heard old status out new = WritesHeard (kept_of_kind kind
 abbrev pub HearsEnd : Option HeldEnd → (kind : ℕ) → List ℕ → ℕ → Written → List ℕ
     → Option HeldEnd → Type 0
 HearsEnd old kind room status out now new =
-    Answers status (λ E of end. WritesKind (kind_numbered kind) (of.said end).methods room status out now) old new
+    Answers status (λ R H G kept. WritesKind (kind_numbered kind) (heard_in kept.end.value).methods room status out now) old new
     × (old ≡ None → now ≡ room)
 
 -- what was heard in the handshake is forgotten, and the events stay
-abbrev pub Forgets : {E : Type 0} → Ghosts E → (old new : Kept E) → Type 0
-Forgets of old new = of.forgot old.end.value new.end.value × (new.places ≡ old.places)
+abbrev pub Forgets : {R H : Type 0} {G : Ghosts R H} → (old new : Kept (StreamEnd R H G)) → Type 0
+Forgets old new = Forgot old.end.value new.end.value × (new.gathering ≡ old.gathering)
 
 abbrev pub ForgetsEnd : Option HeldEnd → ℕ → Option HeldEnd → Type 0
-ForgetsEnd old status new = Does status (λ E of kept now. (status ≡ 0) × Forgets of kept now) old new
+ForgetsEnd old status new = Does status (λ R H G kept now. (status ≡ 0) × Forgets kept now) old new
 
 -- what the last close was about, if there was one
 abbrev pub TellsCause : Option Cause → ℕ → CauseTold → Type 0
@@ -53,4 +56,4 @@ TellsCause (Some cause) status out =
 
 -- of the end of an open handle, which stays as it is
 abbrev pub CausesEnd : Option HeldEnd → ℕ → CauseTold → Option HeldEnd → Type 0
-CausesEnd old status out new = Answers status (λ E of end. TellsCause (of.said end).cause status out) old new
+CausesEnd old status out new = Answers status (λ R H G kept. TellsCause (heard_in kept.end.value).cause status out) old new

@@ -1,6 +1,6 @@
 -- What a batch of feeds of an end behind a handle does whose events lend. Read before: what one such feed does
 -- (`LentEvents`).
-use Rattle.std.specs.Prelude.{◌≡◌, ◌+◌, ◌<◌, ℕ, List, [], ◌∷◌, length, take, drop, Option, Some, None, Result, Ok, Err}
+use Rattle.std.specs.Prelude.{◌≡◌, ◌≢◌, ◌+◌, ◌<◌, ℕ, List, [], ◌∷◌, length, take, drop, Option, Some, None, Result, Ok, Err}
 use Rattle.std.specs.Prelude.{slice_set, ◌⊎◌}
 use Rattle.amqp_frame.specs.Frame.{Frame}
 use Rattle.amqp_model.specs.Lent.Alike.{LentEvent}
@@ -12,10 +12,10 @@ use Rattle.amqp_core.specs.declared.roles.Role.{Ghosts}
 use Rattle.amqp_core.specs.declared.step.Step.{Step}
 use Rattle.amqp_core.specs.declared.stream.StreamEnd.{StreamEnd}
 use Rattle.amqp_handle.specs.declared.kept.HeldEnd.{HeldEnd}
-use Rattle.amqp_handle.specs.declared.kept.HeldEnd.TheVariants.{Client, Server, LendingClient, LendingServer}
 use Rattle.amqp_handle.specs.declared.kept.Kept.{Kept}
 use Rattle.meadowtray.specs.EndNumbers.{core_status}
 use Rattle.meadowtray.specs.Feeding.{TellsCode}
+use Rattle.meadowtray.specs.HeldEnds.{Of}
 use Rattle.meadowtray.specs.LentEvents.{TellsEvent}
 use Rattle.meadowtray.specs.declared.ends.batching.EventPlace.{EventPlace}
 use Rattle.meadowtray.specs.declared.ends.feeding.FedEnd.{FedEnd}
@@ -104,7 +104,7 @@ pub record RestKept {R H : Type 0} {G : Ghosts R H} (old : Kept (StreamEnd R H G
     (places : List EventPlace) (answer : Result (Option (Lent R H G)) CoreFault) (taken count : ℕ)
     (now : List EventPlace) (new : Kept (StreamEnd R H G)) : Type 0 where
   pub lends : LendsRest old.end.value piece places answer taken count now new.end.value
-  pub places_stay : new.places ≡ old.places
+  pub gathering : new.gathering ≡ old.gathering
 
 pub record RestAnswer {R H : Type 0} {G : Ghosts R H} (old : StreamEnd R H G) (piece : List ℕ)
     (places : List EventPlace) (answer : Result (Option (Lent R H G)) CoreFault) (taken count : ℕ)
@@ -157,13 +157,15 @@ pub record BatchAnswer {R H : Type 0} {G : Ghosts R H} (old : StreamEnd R H G) (
   pub frames : LendsFrames old piece places answer taken shown filled new
   pub told : TellsStop answer (given_in new) taken shown filled status fed count now
 
--- a handle that isn't open is refused, and one whose end gathers
+-- of an end that lends; one that gathers is fed by another call
+abbrev pub BatchOne : {R H : Type 0} {G : Ghosts R H} → Kept (StreamEnd R H G) → List ℕ → List EventPlace → ℕ → FedEnd
+    → (count : ℕ) → (now : List EventPlace) → Type 0
+BatchOne kept piece places status fed count now =
+    ((status ≡ 3) × (kept.gathering ≢ None) × (now ≡ places))
+    ⊎ BatchAnswer kept.end.value piece places status fed count now
+
+-- a handle that isn't open is refused
 abbrev pub BatchesLent : Option HeldEnd → List ℕ → List EventPlace → ℕ → FedEnd → (count : ℕ) → (now : List EventPlace)
     → Type 0
-BatchesLent None piece places status fed count now = (status ≡ 1) × (now ≡ places)
-BatchesLent (Some (Client kept)) piece places status fed count now = (status ≡ 3) × (now ≡ places)
-BatchesLent (Some (Server kept)) piece places status fed count now = (status ≡ 3) × (now ≡ places)
-BatchesLent (Some (LendingClient kept)) piece places status fed count now =
-    BatchAnswer kept.end.value piece places status fed count now
-BatchesLent (Some (LendingServer kept)) piece places status fed count now =
-    BatchAnswer kept.end.value piece places status fed count now
+BatchesLent held piece places status fed count now =
+    Of status (λ R H G kept. BatchOne kept piece places status fed count now) held × (held ≡ None → now ≡ places)

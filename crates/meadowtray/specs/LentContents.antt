@@ -18,10 +18,10 @@ use Rattle.amqp_handle.specs.declared.content.Content.{Content}
 use Rattle.amqp_handle.specs.declared.held.Held.{Held}
 use Rattle.amqp_handle.specs.declared.held.Held.TheVariants as held
 use Rattle.amqp_handle.specs.declared.kept.HeldEnd.{HeldEnd}
-use Rattle.amqp_handle.specs.declared.kept.HeldEnd.TheVariants.{Client, Server, LendingClient, LendingServer}
 use Rattle.amqp_handle.specs.declared.kept.Kept.{Kept}
 use Rattle.meadowtray.specs.BegunContents.{lend_status}
 use Rattle.meadowtray.specs.Contents.{body_left}
+use Rattle.meadowtray.specs.HeldEnds.{Does}
 use Rattle.meadowtray.specs.Messages.{unmade_status, NotRead}
 use Rattle.meadowtray.specs.declared.ends.slices.Piece.{Piece}
 use Rattle.meadowtray.specs.declared.ends.messages.Unmade.{Unmade}
@@ -55,8 +55,8 @@ pub record LendsKept {R H : Type 0} {G : Ghosts R H} (old : Kept (StreamEnd R H 
   pub lends : LendsContent old.end.value (content_asked channel call properties body) Lend answer new.end.value
   -- the answer is told
   pub told : ToldLent answer pieces status count now
-  -- the events stay
-  pub places : new.places ≡ old.places
+  -- what is gathered stays
+  pub gathering : new.gathering ≡ old.gathering
 
 -- the header says another size than the body's, and nothing changes; or the content is lent
 pub data LendsSized {R H : Type 0} {G : Ghosts R H} (old : Kept (StreamEnd R H G)) (channel : ℕ) (call : Call)
@@ -111,20 +111,9 @@ LendsWith old (Some (held.Splitter s)) channel method header body pieces status 
 LendsWith old (Some (held.Content c)) channel method header body pieces status count now new =
     LendsOne old c channel method header body pieces status count now new
 
--- by the end of an open handle that lends; one that gathers lends none
+-- by the end of an open handle
 abbrev pub LendsEnd : Option HeldEnd → Option Held → ℕ → (method_octets header_octets body : List ℕ) → List Piece → ℕ
     → (count : ℕ) → List Piece → Option HeldEnd → Type 0
-LendsEnd None content channel method header body pieces status count now new =
-    (status ≡ 1) × (new ≡ None) × (now ≡ pieces)
-LendsEnd (Some (Client kept)) content channel method header body pieces status count now new =
-    (status ≡ 3) × (new ≡ Some (Client kept)) × (now ≡ pieces)
-LendsEnd (Some (Server kept)) content channel method header body pieces status count now new =
-    (status ≡ 3) × (new ≡ Some (Server kept)) × (now ≡ pieces)
-LendsEnd (Some (LendingClient kept)) content channel method header body pieces status count now
-    (Some (LendingClient new)) =
-    LendsWith kept content channel method header body pieces status count now new
-LendsEnd (Some (LendingClient kept)) content channel method header body pieces status count now new = ⊥
-LendsEnd (Some (LendingServer kept)) content channel method header body pieces status count now
-    (Some (LendingServer new)) =
-    LendsWith kept content channel method header body pieces status count now new
-LendsEnd (Some (LendingServer kept)) content channel method header body pieces status count now new = ⊥
+LendsEnd old content channel method header body pieces status count now new =
+    Does status (λ R H G kept next. LendsWith kept content channel method header body pieces status count now next) old
+    new × (old ≡ None → now ≡ pieces)

@@ -1,6 +1,6 @@
 -- What a feed of an end behind a handle does whose events lend. Read before: what a feed of such an end does (`Lends`
 -- of `amqp_core`).
-use Rattle.std.specs.Prelude.{◌≡◌, ℕ, List, true, false, Option, Some, None, Result, Ok, Err}
+use Rattle.std.specs.Prelude.{◌≡◌, ◌≢◌, ◌⊎◌, ℕ, List, true, false, Option, Some, None, Result, Ok, Err}
 use Rattle.amqp_method.specs.Encoding.{EncodesMethod}
 use Rattle.amqp_method.specs.Properties.{header, EncodesHeader}
 use Rattle.amqp_model.specs.End.Events as events
@@ -13,10 +13,10 @@ use Rattle.amqp_core.specs.declared.faults.CoreFault.{CoreFault}
 use Rattle.amqp_core.specs.declared.roles.Role.{Ghosts}
 use Rattle.amqp_core.specs.declared.stream.StreamEnd.{StreamEnd}
 use Rattle.amqp_handle.specs.declared.kept.HeldEnd.{HeldEnd}
-use Rattle.amqp_handle.specs.declared.kept.HeldEnd.TheVariants.{Client, Server, LendingClient, LendingServer}
 use Rattle.amqp_handle.specs.declared.kept.Kept.{Kept}
 use Rattle.meadowtray.specs.EndNumbers.{core_status}
 use Rattle.meadowtray.specs.Feeding.{TellsCode}
+use Rattle.meadowtray.specs.HeldEnds.{Of}
 use Rattle.meadowtray.specs.declared.ends.events.SeenEvent.{SeenEvent}
 use Rattle.meadowtray.specs.declared.ends.feeding.FedEnd.{FedEnd}
 use Rattle.meadowtray.specs.declared.ends.lending.Lent.{Lent}
@@ -78,12 +78,12 @@ abbrev pub lent_seen : {R H : Type 0} {G : Ghosts R H} → Result (Lent R H G) C
 lent_seen (Ok lent) = step_seen (Ok lent.step) (given_in lent.end.now)
 lent_seen (Err fault) = Err fault
 
--- the end is fed the piece, answers this, and its places stay
+-- the end is fed the piece, answers this, and gathers nothing
 pub record LendsKept {R H : Type 0} {G : Ghosts R H} (old : Kept (StreamEnd R H G)) (piece : List ℕ)
     (seen : Result LentSeen CoreFault)
     (new : Kept (StreamEnd R H G)) : Type 0 where
   pub lends : Lends old.end.value piece seen new.end.value
-  pub places : new.places ≡ old.places
+  pub gathering : new.gathering ≡ old.gathering
 
 -- this is what an end answers to a piece
 pub record LentAnswer {R H : Type 0} {G : Ghosts R H} (old : StreamEnd R H G) (piece : List ℕ)
@@ -92,12 +92,12 @@ pub record LentAnswer {R H : Type 0} {G : Ghosts R H} (old : StreamEnd R H G) (p
   pub new : StreamEnd R H G
   pub lends : Lends old piece seen new
 
--- the answer is told; a handle that isn't open is refused, and one whose end gathers
+-- the answer is told; one that gathers is fed by another call
+abbrev pub FeedsOne : {R H : Type 0} {G : Ghosts R H} → Kept (StreamEnd R H G) → List ℕ → ℕ → FedEnd → SeenEvent → Type 0
+FeedsOne kept piece status fed out =
+    ((status ≡ 3) × (kept.gathering ≢ None))
+    ⊎ ((seen : Result LentSeen CoreFault) × LentAnswer kept.end.value piece seen × TellsLent seen status fed out)
+
+-- a handle that isn't open is refused
 abbrev pub FeedsLent : Option HeldEnd → List ℕ → ℕ → FedEnd → SeenEvent → Type 0
-FeedsLent None piece status fed out = status ≡ 1
-FeedsLent (Some (Client kept)) piece status fed out = status ≡ 3
-FeedsLent (Some (Server kept)) piece status fed out = status ≡ 3
-FeedsLent (Some (LendingClient kept)) piece status fed out =
-    (seen : Result LentSeen CoreFault) × LentAnswer kept.end.value piece seen × TellsLent seen status fed out
-FeedsLent (Some (LendingServer kept)) piece status fed out =
-    (seen : Result LentSeen CoreFault) × LentAnswer kept.end.value piece seen × TellsLent seen status fed out
+FeedsLent held piece status fed out = Of status (λ R H G kept. FeedsOne kept piece status fed out) held

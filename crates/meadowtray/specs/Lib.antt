@@ -1,4 +1,3 @@
-pub mod AnyEnds
 pub mod BegunContents
 pub mod Blaming
 pub mod Closing
@@ -10,6 +9,7 @@ pub mod EndAsks
 pub mod EndLending
 pub mod EndNumbers
 pub mod EndOpening
+pub mod EndWrites
 pub mod Events
 pub mod Feeding
 pub mod Handles

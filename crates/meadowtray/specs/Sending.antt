@@ -7,61 +7,63 @@ use Rattle.amqp_method.specs.Messages.{Letter, letter_with}
 use Rattle.amqp_method.specs.Properties.{ContentHeader}
 use Rattle.amqp_model.specs.End.Asks.{Send}
 use Rattle.amqp_channel.specs.Events.EventView.{message_of}
+use Rattle.amqp_core.specs.Stream.Asks.{StreamAsked}
 use Rattle.amqp_core.specs.declared.faults.AskFault.{AskFault}
+use Rattle.amqp_core.specs.declared.roles.Role.{Ghosts}
+use Rattle.amqp_core.specs.declared.stream.StreamEnd.{StreamEnd}
 use Rattle.amqp_handle.specs.declared.kept.HeldEnd.{HeldEnd}
 use Rattle.amqp_handle.specs.declared.kept.Kept.{Kept}
 use Rattle.meadowtray.specs.EndNumbers.{asked_status}
 use Rattle.meadowtray.specs.HeldEnds.{Does}
 use Rattle.meadowtray.specs.Messages.{unmade_status, IsLetter, NotContent, NotLetter}
-use Rattle.meadowtray.specs.declared.ends.any_end.AnyEnd.{Ghosts}
 use Rattle.meadowtray.specs.declared.ends.messages.Unmade.{Unmade}
 
 -- an end is asked to send a message
-pub record SentKept {E : Type 0} (of : Ghosts E) (old : Kept E) (channel : ℕ) (letter : Letter) (status : ℕ)
-    (new : Kept E) : Type 0 where
+pub record SentKept {R H : Type 0} {G : Ghosts R H} (old : Kept (StreamEnd R H G)) (channel : ℕ) (letter : Letter) (status : ℕ)
+    (new : Kept (StreamEnd R H G)) : Type 0 where
   -- it answers this, and is left so
   pub answer : Result (Unit {0}) AskFault
-  pub asked : of.asked old.end.value (Send channel (message_of letter)) answer new.end.value
+  pub asked : StreamAsked old.end.value (Send channel (message_of letter)) answer new.end.value
   -- the answer is told
   pub told : status ≡ asked_status answer
-  -- the events stay
-  pub places : new.places ≡ old.places
+  -- what is gathered stays
+  pub gathering : new.gathering ≡ old.gathering
 
 -- a header that says another size than the body's is no such message's, and the end stays as it is; any other is sent
-pub data SizedOne {E : Type 0} (of : Ghosts E) (old : Kept E) (channel : ℕ) (call : Call)
+pub data SizedOne {R H : Type 0} {G : Ghosts R H} (old : Kept (StreamEnd R H G)) (channel : ℕ) (call : Call)
     (h : ContentHeader) (body : List ℕ)
-    (status : ℕ) (new : Kept E) : Type 0 where
+    (status : ℕ) (new : Kept (StreamEnd R H G)) : Type 0 where
   other : h.body_size ≢ length body → status ≡ 9 → new ≡ old
-      → SizedOne of old channel call h body status new
+      → SizedOne old channel call h body status new
   sized :
-      h.body_size ≡ length body → SentKept of old channel (letter_with call h.properties body) status new
-      → SizedOne of old channel call h body status new
+      h.body_size ≡ length body → SentKept old channel (letter_with call h.properties body) status new
+      → SizedOne old channel call h body status new
 
 -- the octets aren't a message, and the end stays as it is; or they are, and it is sent
-pub data SendsOne {E : Type 0} (of : Ghosts E) (IsCall : Call → Type 0)
-    (Not : Unmade → Type 0) (old : Kept E) (channel : ℕ) (header_octets body : List ℕ) (status : ℕ)
-    (new : Kept E) : Type 0 where
+pub data SendsOne {R H : Type 0} {G : Ghosts R H} (IsCall : Call → Type 0)
+    (Not : Unmade → Type 0) (old : Kept (StreamEnd R H G)) (channel : ℕ) (header_octets body : List ℕ) (status : ℕ)
+    (new : Kept (StreamEnd R H G)) : Type 0 where
   unmade :
       (fault : Unmade) → Not fault → status ≡ unmade_status fault → new ≡ old
-      → SendsOne of IsCall Not old channel header_octets body status new
+      → SendsOne IsCall Not old channel header_octets body status new
   sent :
-      (letter : Letter) → IsLetter IsCall header_octets body letter → SentKept of old channel letter status new
-      → SendsOne of IsCall Not old channel header_octets body status new
+      (letter : Letter) → IsLetter IsCall header_octets body letter → SentKept old channel letter status new
+      → SendsOne IsCall Not old channel header_octets body status new
 
 -- a message with this method
-abbrev pub SendsCall : {E : Type 0} → Ghosts E → (old : Kept E) → ℕ → Call → (header_octets body : List ℕ)
-    → ℕ → (new : Kept E) → Type 0
-SendsCall of old channel call header_octets body status new =
-    SendsOne of (λ (c : Call). c ≡ call) (NotContent header_octets body) old channel header_octets body status new
+abbrev pub SendsCall : {R H : Type 0} {G : Ghosts R H} → (old : Kept (StreamEnd R H G)) → ℕ → Call → (header_octets body : List ℕ)
+    → ℕ → (new : Kept (StreamEnd R H G)) → Type 0
+SendsCall old channel call header_octets body status new =
+    SendsOne (λ (c : Call). c ≡ call) (NotContent header_octets body) old channel header_octets body status new
 
 -- a message with the method of these octets
-abbrev pub SendsKept : {E : Type 0} → Ghosts E → (old : Kept E) → ℕ
-    → (method_octets header_octets body : List ℕ) → ℕ → (new : Kept E) → Type 0
-SendsKept of old channel method_octets header_octets body status new =
-    SendsOne of (λ (c : Call). EncodesMethod c method_octets) (NotLetter method_octets header_octets body) old channel
+abbrev pub SendsKept : {R H : Type 0} {G : Ghosts R H} → (old : Kept (StreamEnd R H G)) → ℕ
+    → (method_octets header_octets body : List ℕ) → ℕ → (new : Kept (StreamEnd R H G)) → Type 0
+SendsKept old channel method_octets header_octets body status new =
+    SendsOne (λ (c : Call). EncodesMethod c method_octets) (NotLetter method_octets header_octets body) old channel
     header_octets body status new
 
 abbrev pub SendsEnd : Option HeldEnd → ℕ → (method_octets header_octets body : List ℕ) → ℕ
     → Option HeldEnd → Type 0
 SendsEnd old channel method header body status new =
-    Does status (λ E of kept now. SendsKept of kept channel method header body status now) old new
+    Does status (λ R H G kept now. SendsKept kept channel method header body status now) old new

@@ -192,8 +192,8 @@ static void refuse(mt_content *content)
 	CHECK(mt_end_begin_content(&gathers, content, 1, message.method, message.header, &octets) == MT_NOT_OPEN);
 	mt_client_defaults(&settings);
 	CHECK(mt_end_open_client(&gathers, &settings) == MT_OK);
-	CHECK(mt_end_begin_content(&gathers, content, 1, message.method, message.header, &octets) == MT_OTHER_KIND);
-	CHECK(mt_end_lend_content(&gathers, content, 1, &message, pieces, 8, &placed) == MT_OTHER_KIND && placed == 0);
+	CHECK(mt_end_begin_content(&gathers, content, 1, message.method, message.header, &octets) == MT_WAITS);
+	CHECK(mt_end_lend_content(&gathers, content, 1, &message, pieces, 8, &placed) == MT_WAITS && placed == 0);
 	CHECK(mt_end_pieces(&gathers, 10, &placed) == MT_ASK_NOT_RUNNING && placed == 0);
 	CHECK(mt_end_close(&gathers) == MT_OK);
 

@@ -74,8 +74,7 @@ impl Drop for Content {
 }
 
 impl End {
-    /// Begins a content through an end that lends: by the payloads of its method and of its header, which says how long
-    /// the body will be. The frames of both are lent, and those of the body come by [`Content::write`]. They count as put
+    /// Begins a content: by the payloads of its method and of its header, which says how long the body will be. The frames of both are lent, and those of the body come by [`Content::write`]. They count as put
     /// and as written, so the program writes all of them before anything else that the end puts.
     ///
     /// [`Status::WAITS`] where octets of the end's output are to be written first, or octets of what the content began
@@ -102,8 +101,7 @@ impl End {
         }
     }
 
-    /// Lends the frames of a content through an end that lends, with the body where it lies, for a write that takes
-    /// several slices: as [`End::send`] sends them, and without the copy. They count as put and as written, so the program
+    /// Lends the frames of a content, with the body where it lies, for a write that takes several slices: as [`End::send`] sends them, and without the copy. They count as put and as written, so the program
     /// writes all of them before anything else that the end puts.
     ///
     /// [`Status::WAITS`] is as at [`End::begin_content`]; [`Status::MISFIT`] where the header says another size than the

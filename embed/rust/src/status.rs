@@ -8,7 +8,7 @@ use std::fmt;
 pub struct Status(u32);
 
 impl Status {
-    /// An end of another kind: one that gathers, where one that lends is wanted.
+    /// The handle holds another kind of value.
     pub const OTHER_KIND: Status = Status(3);
     pub const OUT_OF_MEMORY: Status = Status(4);
     pub const LIMIT: Status = Status(5);

@@ -1,13 +1,13 @@
 //! What an end answers of itself.
 ghost use Rattle.std.specs.Prelude.{◌≡◌};
 ghost use Rattle.amqp_channel.specs.Events.EventView.{agreed_there};
-ghost use Rattle.meadowtray.specs.EndAnswers.{ChannelOfEnd, LooksAt, LooksEnd, ToldAgreed, ToldChannel, WaitsOnEnd};
+ghost use Rattle.amqp_core.specs.Stream.View.{endpoint_of};
+ghost use Rattle.meadowtray.specs.EndAnswers.{counts_in, ChannelOfEnd, LooksAt, LooksEnd, ToldAgreed, ToldChannel, WaitsOnEnd};
 
 use crate::codec::methods::number_of;
-use crate::ends::any_end::AnyEnd;
 use crate::ends::numbers::{phase_of, state_of};
-use amqp_core::Agreed;
-use amqp_handle::{EndSlot, HandleFault, HeldEnd, Kept};
+use amqp_core::{Agreed, Role, StreamEnd};
+use amqp_handle::{EndSlot, Gathering, HandleFault, HeldEnd, Kept};
 
 /// What tune-ok settled, as it crosses to C: all 0 before that.
 #[repr(C)]
@@ -66,25 +66,36 @@ fn limits(agreed: Option<Agreed>) -> AgreedLimits
     }
 }
 
-fn look<E: AnyEnd>(kept: &Kept<E>) -> EndLook
-    ensures { LooksAt E.AnyEnd kept.now.end.value result }
+/// How many octets an end that gathers keeps of methods and headers, and of bodies.
+fn gathered(gathering: &Option<Box<Gathering>>) -> (usize, usize)
+    ensures { (result.0 ≡ (counts_in gathering.now).heads) × (result.1 ≡ (counts_in gathering.now).bodies) }
+{
+    match gathering {
+        Some(gathering) => (gathering.heads, gathering.bodies),
+        None => (0, 0),
+    }
+}
+
+fn look<R: Role>(kept: &Kept<StreamEnd<R>>) -> EndLook
+    ensures { LooksAt kept.now result }
 {
     let end = &*kept.end;
+    let (heads, bodies) = gathered(&kept.gathering);
     EndLook {
         frames_taken: end.frames_taken(),
         octets_written: end.octets_written(),
         octets_taken: end.octets_taken(),
         pending: end.pending(),
-        kept: end.kept(),
-        gathered: end.gathered_in_all(),
+        kept: end.kept().saturating_add(heads).saturating_add(bodies),
+        gathered: bodies,
         agreed: limits(end.agreed()),
         heartbeat: end.heartbeat(),
         phase: phase_of(end.phase()),
     }
 }
 
-fn tell_channel<E: AnyEnd>(kept: &Kept<E>, channel: u16) -> ChannelTold
-    ensures { ToldChannel (E.endpoint kept.now.end.value).end channel result }
+fn tell_channel<R: Role>(kept: &Kept<StreamEnd<R>>, channel: u16) -> ChannelTold
+    ensures { ToldChannel (endpoint_of kept.now.end.value).end channel result }
 {
     let end = &*kept.end;
     let reply_due = match end.reply_due(channel) {
@@ -115,14 +126,6 @@ pub extern "C" fn proved_end_look(slot: &mut EndSlot, out: &mut EndLook) -> u32
             *out = look(kept);
             0
         }
-        HeldEnd::LendingClient(kept) => {
-            *out = look(kept);
-            0
-        }
-        HeldEnd::LendingServer(kept) => {
-            *out = look(kept);
-            0
-        }
     }
 }
 
@@ -143,14 +146,6 @@ pub extern "C" fn proved_end_channel(slot: &mut EndSlot, channel: u16, out: &mut
             *out = tell_channel(kept, channel);
             0
         }
-        HeldEnd::LendingClient(kept) => {
-            *out = tell_channel(kept, channel);
-            0
-        }
-        HeldEnd::LendingServer(kept) => {
-            *out = tell_channel(kept, channel);
-            0
-        }
     }
 }
 
@@ -168,14 +163,6 @@ pub extern "C" fn proved_end_waiting(slot: &mut EndSlot, channel: u16, out: &mut
             0
         }
         HeldEnd::Server(kept) => {
-            *out = kept.end.waiting(channel);
-            0
-        }
-        HeldEnd::LendingClient(kept) => {
-            *out = kept.end.waiting(channel);
-            0
-        }
-        HeldEnd::LendingServer(kept) => {
             *out = kept.end.waiting(channel);
             0
         }

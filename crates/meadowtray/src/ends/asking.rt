@@ -3,10 +3,9 @@ ghost use Rattle.std.specs.Prelude.{◌≡◌, Some, IfOk, IfErr};
 ghost use Rattle.amqp_core.specs.Asks.View.{ask_view};
 ghost use Rattle.meadowtray.specs.EndAsks.{ask_given, AskedKept, AsksEnd, AsksOne, NotAsk};
 
-use crate::ends::any_end::AnyEnd;
 use crate::ends::messages::{Unmade, own_text};
 use crate::ends::numbers::ask_fault;
-use amqp_core::Ask;
+use amqp_core::{Ask, Role, StreamEnd};
 use amqp_handle::{EndSlot, HandleFault, HeldEnd, Kept};
 use std::alloc::Global;
 
@@ -50,8 +49,8 @@ fn own_ask(alloc: Global, given: &GivenAsk<'_>) -> Result<Ask, Unmade>
 }
 
 /// Asks something of an end. The channel is that which an open takes.
-fn put_ask<E: AnyEnd>(kept: &mut Kept<E>, ask: &Ask, channel: &mut u16) -> u32
-    ensures { AskedKept E.AnyEnd kept.old (ask_view ask.now) result channel.new kept.new }
+fn put_ask<R: Role>(kept: &mut Kept<StreamEnd<R>>, ask: &Ask, channel: &mut u16) -> u32
+    ensures { AskedKept kept.old (ask_view ask.now) result channel.new kept.new }
 {
     match kept.end.ask(ask) {
         Ok(number) => {
@@ -63,13 +62,13 @@ fn put_ask<E: AnyEnd>(kept: &mut Kept<E>, ask: &Ask, channel: &mut u16) -> u32
 }
 
 /// Asks of an end what C gives.
-fn ask_one<E: AnyEnd>(
+fn ask_one<R: Role>(
     alloc: Global,
-    kept: &mut Kept<E>,
+    kept: &mut Kept<StreamEnd<R>>,
     given: &GivenAsk<'_>,
     channel: &mut u16,
 ) -> u32
-    ensures { AsksOne E.AnyEnd kept.old given.now result channel.new kept.new }
+    ensures { AsksOne kept.old given.now result channel.new kept.new }
 {
     match own_ask(alloc, given) {
         Ok(made) => put_ask(kept, &made, channel),
@@ -93,7 +92,5 @@ pub extern "C" fn proved_end_ask(
     match slot.held() {
         HeldEnd::Client(kept) => ask_one(alloc, kept, given, channel),
         HeldEnd::Server(kept) => ask_one(alloc, kept, given, channel),
-        HeldEnd::LendingClient(kept) => ask_one(alloc, kept, given, channel),
-        HeldEnd::LendingServer(kept) => ask_one(alloc, kept, given, channel),
     }
 }

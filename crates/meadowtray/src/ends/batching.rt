@@ -5,7 +5,7 @@ ghost use Rattle.std.specs.Io.BufRead.{Rests};
 ghost use Rattle.amqp_core.specs.Stream.EventRefView.{event_ref_there, event_ref_view};
 ghost use Rattle.amqp_core.specs.contracts.stream.StreamEnd as stream_row;
 ghost use Rattle.amqp_handle.specs.contracts.kept.Kept as kept_row;
-ghost use Rattle.meadowtray.specs.LentBatches.{BatchAnswer, BatchesLent, HasRoom, LendsFrames, RestAnswer, RestKept, ShowsLast, TellsRest};
+ghost use Rattle.meadowtray.specs.LentBatches.{BatchAnswer, BatchesLent, BatchOne, HasRoom, LendsFrames, RestAnswer, RestKept, ShowsLast, TellsRest};
 ghost use Rattle.meadowtray.specs.LentEvents.{TellsEvent};
 
 use crate::ends::events::SeenEvent;
@@ -215,6 +215,23 @@ fn lend_batch<'a, R: Role>(
     tell_rest(answer, &piece[..0], places, fed, count)
 }
 
+/// Feeds an end with a piece, if it lends its events.
+#[inline(always)]
+fn batch_one<'a, R: Role>(
+    kept: &'a mut Kept<StreamEnd<R>>,
+    piece: &'a [u8],
+    places: &mut [EventPlace<'a>],
+    fed: &mut FedEnd,
+    count: &mut usize,
+) -> u32
+    ensures { BatchOne kept.old piece.now places.old result fed.new count.new places.new }
+{
+    if kept.gathering.is_some() {
+        return HandleFault::OtherKind.number();
+    }
+    lend_batch(kept, piece, places, fed, count)
+}
+
 /// Feeds the end of a handle whose events lend with a piece, as `StreamEnd::feed_ref` does again and again, and shows
 /// each event in a place. It stops where the piece ends, where no place is left, at a fault, and after the first frame
 /// that doesn't lie in the piece.
@@ -232,9 +249,7 @@ pub extern "C" fn proved_end_lend_batch<'a>(
         return HandleFault::NotOpen.number();
     }
     match slot.held() {
-        HeldEnd::LendingClient(kept) => lend_batch(kept, piece, places, fed, count),
-        HeldEnd::LendingServer(kept) => lend_batch(kept, piece, places, fed, count),
-        HeldEnd::Client(_) => HandleFault::OtherKind.number(),
-        HeldEnd::Server(_) => HandleFault::OtherKind.number(),
+        HeldEnd::Client(kept) => batch_one(kept, piece, places, fed, count),
+        HeldEnd::Server(kept) => batch_one(kept, piece, places, fed, count),
     }
 }

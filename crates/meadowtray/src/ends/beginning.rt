@@ -149,9 +149,7 @@ pub extern "C" fn proved_end_begin_content(
         return HandleFault::NotOpen.number();
     }
     match slot.held() {
-        HeldEnd::LendingClient(kept) => begin_with(alloc, kept, content, channel, method, header),
-        HeldEnd::LendingServer(kept) => begin_with(alloc, kept, content, channel, method, header),
-        HeldEnd::Client(_) => HandleFault::OtherKind.number(),
-        HeldEnd::Server(_) => HandleFault::OtherKind.number(),
+        HeldEnd::Client(kept) => begin_with(alloc, kept, content, channel, method, header),
+        HeldEnd::Server(kept) => begin_with(alloc, kept, content, channel, method, header),
     }
 }

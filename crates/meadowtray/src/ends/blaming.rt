@@ -1,15 +1,15 @@
 //! What was wrong with the octets with which an end found fault.
 ghost use Rattle.std.specs.Prelude.{◌≡◌};
 ghost use Rattle.amqp_core.specs.Faults.Blamed.{code_there};
+ghost use Rattle.amqp_core.specs.Stream.View.{counters_of};
 ghost use Rattle.meadowtray.specs.EndAnswers.{kind_told};
 ghost use Rattle.meadowtray.specs.Blaming.{code_number, field_place, field_told, frame_told, BlamesEnd, LineOfEnd, TellsBlame, ToldBlame, WritesLine, WritesLineOf};
 
 use crate::codec::methods::number_of;
 use crate::codec::statuses::{NOT_THERE, method_fault};
 use crate::codec::writing::{WriteFault, Written, put, tell};
-use crate::ends::any_end::AnyEnd;
 use crate::ends::numbers::rule_of;
-use amqp_core::{Blame, CloseCode};
+use amqp_core::{Blame, CloseCode, Role, StreamEnd};
 use amqp_frame::FrameKind;
 use amqp_handle::{EndSlot, HandleFault, HeldEnd, Kept};
 use amqp_method::{Kind, MethodFault};
@@ -100,8 +100,8 @@ fn told(blame: &Blame) -> BlameTold
 }
 
 /// Tells what an end blames, if it blames something.
-fn tell_blame<E: AnyEnd>(kept: &Kept<E>, out: &mut BlameTold) -> u32
-    ensures { ToldBlame (E.counters kept.now.end.value) result out.new }
+fn tell_blame<R: Role>(kept: &Kept<StreamEnd<R>>, out: &mut BlameTold) -> u32
+    ensures { ToldBlame (counters_of kept.now.end.value) result out.new }
 {
     let end = &*kept.end;
     match end.blame() {
@@ -124,8 +124,6 @@ pub extern "C" fn proved_end_blame(slot: &mut EndSlot, out: &mut BlameTold) -> u
     match slot.held() {
         HeldEnd::Client(kept) => tell_blame(kept, out),
         HeldEnd::Server(kept) => tell_blame(kept, out),
-        HeldEnd::LendingClient(kept) => tell_blame(kept, out),
-        HeldEnd::LendingServer(kept) => tell_blame(kept, out),
     }
 }
 
@@ -140,8 +138,13 @@ fn write_line(alloc: Global, blame: &Blame, room: &mut [u8]) -> Result<usize, Wr
 }
 
 /// Writes the line of what an end blames, if it blames something.
-fn write_blame<E: AnyEnd>(alloc: Global, kept: &Kept<E>, room: &mut [u8], out: &mut Written) -> u32
-    ensures { WritesLineOf (E.counters kept.now.end.value) room.old result out.new room.new }
+fn write_blame<R: Role>(
+    alloc: Global,
+    kept: &Kept<StreamEnd<R>>,
+    room: &mut [u8],
+    out: &mut Written,
+) -> u32
+    ensures { WritesLineOf (counters_of kept.now.end.value) room.old result out.new room.new }
 {
     let end = &*kept.end;
     match end.blame() {
@@ -166,7 +169,5 @@ pub extern "C" fn proved_end_blame_line(
     match slot.held() {
         HeldEnd::Client(kept) => write_blame(alloc, kept, room, out),
         HeldEnd::Server(kept) => write_blame(alloc, kept, room, out),
-        HeldEnd::LendingClient(kept) => write_blame(alloc, kept, room, out),
-        HeldEnd::LendingServer(kept) => write_blame(alloc, kept, room, out),
     }
 }

@@ -1,12 +1,12 @@
 //! Closes that name the method for which they are.
 ghost use Rattle.std.specs.Prelude.{◌≡◌, Some, IfOk, IfErr};
+ghost use Rattle.amqp_core.specs.Stream.Asks.{StreamAsked};
 ghost use Rattle.meadowtray.specs.Closing.{close_given, close_view, ClosedKept, ClosesEnd, ClosesKept, NotClose};
 
 use crate::codec::written_methods::kind_of;
-use crate::ends::any_end::AnyEnd;
 use crate::ends::messages::{Unmade, own_text};
 use crate::ends::numbers::asked;
-use amqp_core::AskFault;
+use amqp_core::{AskFault, Role, StreamEnd};
 use amqp_handle::{EndSlot, HandleFault, HeldEnd, Kept};
 use amqp_method::Kind;
 use amqp_value::ShortStr;
@@ -50,8 +50,8 @@ fn own_close(alloc: Global, given: &GivenClose<'_>) -> Result<Close, Unmade>
 }
 
 /// Puts a close.
-fn put<E: AnyEnd>(end: &mut E, close: &Close) -> Result<(), AskFault>
-    ensures { E.asked end.old (close_view close.now) result end.new }
+fn put<R: Role>(end: &mut StreamEnd<R>, close: &Close) -> Result<(), AskFault>
+    ensures { StreamAsked end.old (close_view close.now) result end.new }
 {
     match close {
         Close::Channel(channel, code, text, kind) => {
@@ -62,15 +62,15 @@ fn put<E: AnyEnd>(end: &mut E, close: &Close) -> Result<(), AskFault>
 }
 
 /// Puts a close at the end that is kept.
-fn close_kept<E: AnyEnd>(kept: &mut Kept<E>, close: &Close) -> u32
-    ensures { ClosedKept E.AnyEnd kept.old (close_view close.now) result kept.new }
+fn close_kept<R: Role>(kept: &mut Kept<StreamEnd<R>>, close: &Close) -> u32
+    ensures { ClosedKept kept.old (close_view close.now) result kept.new }
 {
     asked(put(&mut *kept.end, close))
 }
 
 /// Puts the close that C gives.
-fn close_one<E: AnyEnd>(alloc: Global, kept: &mut Kept<E>, given: &GivenClose<'_>) -> u32
-    ensures { ClosesKept E.AnyEnd kept.old given.now result kept.new }
+fn close_one<R: Role>(alloc: Global, kept: &mut Kept<StreamEnd<R>>, given: &GivenClose<'_>) -> u32
+    ensures { ClosesKept kept.old given.now result kept.new }
 {
     match own_close(alloc, given) {
         Ok(close) => close_kept(kept, &close),
@@ -93,7 +93,5 @@ pub extern "C" fn proved_end_close_for(
     match slot.held() {
         HeldEnd::Client(kept) => close_one(alloc, kept, given),
         HeldEnd::Server(kept) => close_one(alloc, kept, given),
-        HeldEnd::LendingClient(kept) => close_one(alloc, kept, given),
-        HeldEnd::LendingServer(kept) => close_one(alloc, kept, given),
     }
 }

@@ -1,12 +1,12 @@
 //! Heartbeats, and what an application decides in the handshake.
 ghost use Rattle.std.specs.Prelude.{◌≡◌, Some, IfOk, IfErr};
+ghost use Rattle.amqp_core.specs.Stream.Controls.{StreamControlled};
 ghost use Rattle.meadowtray.specs.Decisions.{decision_view};
 ghost use Rattle.meadowtray.specs.EndAsks.{control_given, ControlledKept, ControlsEnd, ControlsKept, NotControl};
 
-use crate::ends::any_end::AnyEnd;
 use crate::ends::messages::{Unmade, own_text};
 use crate::ends::numbers::asked;
-use amqp_core::AskFault;
+use amqp_core::{AskFault, Role, StreamEnd};
 use amqp_handle::{EndSlot, HandleFault, HeldEnd, Kept};
 use amqp_value::ShortStr;
 use std::alloc::Global;
@@ -55,8 +55,8 @@ fn own_decision<'a>(alloc: Global, given: &GivenControl<'a>) -> Result<Decision<
 }
 
 /// Puts at an end what is decided.
-fn control<E: AnyEnd>(end: &mut E, decision: &Decision<'_>) -> Result<(), AskFault>
-    ensures { E.controlled end.old (decision_view decision.now) result end.new }
+fn control<R: Role>(end: &mut StreamEnd<R>, decision: &Decision<'_>) -> Result<(), AskFault>
+    ensures { StreamControlled end.old (decision_view decision.now) result end.new }
 {
     match decision {
         Decision::Beat => end.beat(),
@@ -69,15 +69,19 @@ fn control<E: AnyEnd>(end: &mut E, decision: &Decision<'_>) -> Result<(), AskFau
 }
 
 /// Does what is decided.
-fn decide<E: AnyEnd>(kept: &mut Kept<E>, decision: &Decision<'_>) -> u32
-    ensures { ControlledKept E.AnyEnd kept.old (decision_view decision.now) result kept.new }
+fn decide<R: Role>(kept: &mut Kept<StreamEnd<R>>, decision: &Decision<'_>) -> u32
+    ensures { ControlledKept kept.old (decision_view decision.now) result kept.new }
 {
     asked(control(&mut *kept.end, decision))
 }
 
 /// Does what C gives.
-fn control_one<E: AnyEnd>(alloc: Global, kept: &mut Kept<E>, given: &GivenControl<'_>) -> u32
-    ensures { ControlsKept E.AnyEnd kept.old given.now result kept.new }
+fn control_one<R: Role>(
+    alloc: Global,
+    kept: &mut Kept<StreamEnd<R>>,
+    given: &GivenControl<'_>,
+) -> u32
+    ensures { ControlsKept kept.old given.now result kept.new }
 {
     match own_decision(alloc, given) {
         Ok(decision) => decide(kept, &decision),
@@ -101,7 +105,5 @@ pub extern "C" fn proved_end_control(
     match slot.held() {
         HeldEnd::Client(kept) => control_one(alloc, kept, given),
         HeldEnd::Server(kept) => control_one(alloc, kept, given),
-        HeldEnd::LendingClient(kept) => control_one(alloc, kept, given),
-        HeldEnd::LendingServer(kept) => control_one(alloc, kept, given),
     }
 }

@@ -1,15 +1,21 @@
 //! Octets fed to an end.
 ghost use Rattle.std.specs.Prelude.{◌≡◌, ◌<◌, length};
 ghost use Rattle.meadowtray.specs.EndNumbers.{core_status};
-ghost use Rattle.meadowtray.specs.Feeding.{FeedsEnd, FeedsKept, FeedsOne, KeepsAt, TellsCode};
+ghost use Rattle.amqp_core.specs.Stream.StepView.{came_lent};
+ghost use Rattle.amqp_core.specs.Stream.View.{given_in};
+ghost use Rattle.meadowtray.specs.Feeding.{FeedsEnd, FeedsGathering, FeedsOne, GathersStep, TellsCode};
 
 use crate::codec::statuses::NO_ROOM;
-use crate::ends::numbers::event_of;
-use amqp_core::{CoreFault, End, Event, Role, Taken};
-use amqp_handle::{EndSlot, HandleFault, HeldEnd, Kept, Place};
+use crate::ends::numbers::said_of;
+use amqp_core::{CoreFault, Role, Step, StreamEnd};
+use amqp_handle::{EndSlot, Gathering, HandleFault, HeldEnd, Kept};
 
 /// The status of an end's fault is this and the fault's number.
 const CORE_FAULTS: u32 = 400;
+
+const OUT_OF_MEMORY: u32 = 403;
+
+const FAILED: u32 = 404;
 
 /// What a piece gave, as it crosses to C.
 ///
@@ -40,44 +46,71 @@ pub(crate) fn tell_fault(fault: CoreFault, out: &mut FedEnd) -> u32
     }
 }
 
-/// Keeps an event at a place that is there.
+/// Gathers what came of a piece, and tells what is said at a place that is there.
 #[inline(always)]
-fn keep_at(places: &mut Vec<Place>, place: usize, event: Option<Event>)
-    requires { place < length places.old.items }
-    ensures { KeepsAt places.old.items place event places.new.items }
+fn gather<R: Role>(
+    end: &StreamEnd<R>,
+    step: Step<'_>,
+    gathering: &mut Gathering,
+    place: usize,
+    out: &mut FedEnd,
+) -> u32
+    requires { place < length gathering.old.places.items }
+    ensures { GathersStep (came_lent step.entry.came (given_in end.now)) gathering.old place step.entry.octets result
+        out.new gathering.new }
 {
-    places[place].event = event;
-}
-
-/// Feeds an end, and keeps what it tells at a place that is there.
-#[inline(always)]
-fn feed<R: Role>(kept: &mut Kept<End<R>>, place: usize, piece: &[u8], out: &mut FedEnd) -> u32
-    requires { place < length kept.old.places.items }
-    ensures { FeedsKept kept.old place piece.now result out.new kept.new }
-{
-    match kept.end.feed(piece) {
-        Ok(taken) => {
-            let Taken { octets, event } = taken;
-            out.taken = octets;
-            out.kind = event_of(&event);
-            keep_at(&mut kept.places, place, event);
+    let alloc = *gathering.places.allocator();
+    match gathering.take(alloc, place, end.event(step)) {
+        Ok(()) => {
+            out.taken = step.octets;
+            out.kind = said_of(&gathering.places[place].said);
             0
         }
+        Err(_) => {
+            gathering.is_lost = true;
+            OUT_OF_MEMORY
+        }
+    }
+}
+
+/// Feeds an end that gathers so.
+fn feed<R: Role>(
+    end: &mut StreamEnd<R>,
+    gathering: &mut Gathering,
+    place: usize,
+    piece: &[u8],
+    out: &mut FedEnd,
+) -> u32
+    ensures { FeedsGathering end.old gathering.old place piece.now result out.new end.new gathering.new }
+{
+    if place >= gathering.places.len() {
+        return NO_ROOM;
+    }
+    if gathering.is_lost {
+        return FAILED;
+    }
+    match end.advance(piece) {
+        Ok(step) => gather(end, step, gathering, place, out),
         Err(fault) => tell_fault(fault, out),
     }
 }
 
-/// Feeds an end, and keeps what it tells at a place, if there is that place.
-fn feed_at<R: Role>(kept: &mut Kept<End<R>>, place: usize, piece: &[u8], out: &mut FedEnd) -> u32
+/// Feeds an end, if it gathers.
+fn feed_one<R: Role>(
+    kept: &mut Kept<StreamEnd<R>>,
+    place: usize,
+    piece: &[u8],
+    out: &mut FedEnd,
+) -> u32
     ensures { FeedsOne kept.old place piece.now result out.new kept.new }
 {
-    if place >= kept.places.len() {
-        return NO_ROOM;
+    match &mut kept.gathering {
+        Some(gathering) => feed(&mut kept.end, gathering, place, piece, out),
+        None => HandleFault::OtherKind.number(),
     }
-    feed(kept, place, piece, out)
 }
 
-/// Feeds the end of a handle, as `End::feed` does, and keeps what it tells at a place, if the handle has that place.
+/// Feeds the end of a handle that gathers, and says what it tells at a place, if the handle has that place.
 #[unsafe(no_mangle)]
 pub extern "C" fn proved_end_feed(
     slot: &mut EndSlot,
@@ -91,9 +124,7 @@ pub extern "C" fn proved_end_feed(
         return HandleFault::NotOpen.number();
     }
     match slot.held() {
-        HeldEnd::Client(kept) => feed_at(kept, place, piece, out),
-        HeldEnd::Server(kept) => feed_at(kept, place, piece, out),
-        HeldEnd::LendingClient(_) => HandleFault::OtherKind.number(),
-        HeldEnd::LendingServer(_) => HandleFault::OtherKind.number(),
+        HeldEnd::Client(kept) => feed_one(kept, place, piece, out),
+        HeldEnd::Server(kept) => feed_one(kept, place, piece, out),
     }
 }

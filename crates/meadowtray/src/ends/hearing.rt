@@ -2,13 +2,14 @@
 ghost use Rattle.std.specs.Prelude.{◌≡◌};
 ghost use Rattle.amqp_method.specs.MethodView.{method_view};
 ghost use Rattle.amqp_core.specs.Heard.View.{kept_of_kind};
+ghost use Rattle.amqp_core.specs.Stream.View.{heard_in};
 ghost use Rattle.meadowtray.specs.Hearing.{CausesEnd, ForgetsEnd, Forgets, HearsEnd, TellsCause, WritesCall, WritesHeard, WritesKind};
 ghost use Rattle.meadowtray.specs.Writing.{kind_numbered};
 
 use crate::codec::statuses::{NOT_THERE, method_fault};
 use crate::codec::writing::{WriteFault, Written, put, tell};
 use crate::codec::written_methods::{encoded, kind_of};
-use crate::ends::any_end::AnyEnd;
+use amqp_core::{Role, StreamEnd};
 use amqp_handle::{EndSlot, HandleFault, HeldEnd, Kept};
 use amqp_method::{Kind, Method, MethodFaultKind};
 use std::alloc::Global;
@@ -32,14 +33,14 @@ fn write_call(alloc: Global, method: &Method, room: &mut [u8]) -> Result<usize, 
 }
 
 /// Writes what an end keeps of this kind, if it keeps one.
-fn write_heard<E: AnyEnd>(
+fn write_heard<R: Role>(
     alloc: Global,
-    kept: &Kept<E>,
+    kept: &Kept<StreamEnd<R>>,
     kind: Kind,
     room: &mut [u8],
     out: &mut Written,
 ) -> u32
-    ensures { WritesHeard (kept_of_kind kind (E.said kept.now.end.value).methods) room.old result out.new room.new }
+    ensures { WritesHeard (kept_of_kind kind (heard_in kept.now.end.value).methods) room.old result out.new room.new }
 {
     let end = &*kept.end;
     match end.heard(kind) {
@@ -49,14 +50,14 @@ fn write_heard<E: AnyEnd>(
 }
 
 /// Writes what an end keeps of the kind with this number.
-fn write_kind<E: AnyEnd>(
+fn write_kind<R: Role>(
     alloc: Global,
-    kept: &Kept<E>,
+    kept: &Kept<StreamEnd<R>>,
     number: u32,
     room: &mut [u8],
     out: &mut Written,
 ) -> u32
-    ensures { WritesKind (kind_numbered number) (E.said kept.now.end.value).methods room.old result out.new room.new }
+    ensures { WritesKind (kind_numbered number) (heard_in kept.now.end.value).methods room.old result out.new room.new }
 {
     match kind_of(number) {
         Some(kind) => write_heard(alloc, kept, kind, room, out),
@@ -81,13 +82,11 @@ pub extern "C" fn proved_end_heard(
     match slot.held() {
         HeldEnd::Client(kept) => write_kind(alloc, kept, kind, room, out),
         HeldEnd::Server(kept) => write_kind(alloc, kept, kind, room, out),
-        HeldEnd::LendingClient(kept) => write_kind(alloc, kept, kind, room, out),
-        HeldEnd::LendingServer(kept) => write_kind(alloc, kept, kind, room, out),
     }
 }
 
-fn forget<E: AnyEnd>(kept: &mut Kept<E>)
-    ensures { Forgets E.AnyEnd kept.old kept.new }
+fn forget<R: Role>(kept: &mut Kept<StreamEnd<R>>)
+    ensures { Forgets kept.old kept.new }
 {
     kept.end.forget_heard();
 }
@@ -109,20 +108,12 @@ pub extern "C" fn proved_end_forget_heard(slot: &mut EndSlot) -> u32
             forget(kept);
             0
         }
-        HeldEnd::LendingClient(kept) => {
-            forget(kept);
-            0
-        }
-        HeldEnd::LendingServer(kept) => {
-            forget(kept);
-            0
-        }
     }
 }
 
 /// Tells what the last close of the other end was about, if it closed something.
-fn tell_cause<E: AnyEnd>(kept: &Kept<E>, out: &mut CauseTold) -> u32
-    ensures { TellsCause (E.said kept.now.end.value).cause result out.new }
+fn tell_cause<R: Role>(kept: &Kept<StreamEnd<R>>, out: &mut CauseTold) -> u32
+    ensures { TellsCause (heard_in kept.now.end.value).cause result out.new }
 {
     let end = &*kept.end;
     match end.closed_for() {
@@ -148,7 +139,5 @@ pub extern "C" fn proved_end_closed_for(slot: &mut EndSlot, out: &mut CauseTold)
     match slot.held() {
         HeldEnd::Client(kept) => tell_cause(kept, out),
         HeldEnd::Server(kept) => tell_cause(kept, out),
-        HeldEnd::LendingClient(kept) => tell_cause(kept, out),
-        HeldEnd::LendingServer(kept) => tell_cause(kept, out),
     }
 }

@@ -5,7 +5,7 @@ ghost use Rattle.std.specs.Io.BufRead.{Rests};
 ghost use Rattle.amqp_core.specs.Stream.EventRefView.{event_ref_there, event_ref_view, reason_ref_there};
 ghost use Rattle.amqp_core.specs.contracts.stream.StreamEnd as stream_row;
 ghost use Rattle.amqp_handle.specs.contracts.kept.Kept as kept_row;
-ghost use Rattle.meadowtray.specs.LentEvents.{FeedsLent, lent_seen, LendsKept, LentAnswer, TellsEvent, TellsLent, TellsMaybe, TellsReason};
+ghost use Rattle.meadowtray.specs.LentEvents.{FeedsLent, FeedsOne, lent_seen, LendsKept, LentAnswer, TellsEvent, TellsLent, TellsMaybe, TellsReason};
 
 use crate::ends::events::SeenEvent;
 use crate::ends::feeding::{FedEnd, tell_fault};
@@ -167,6 +167,22 @@ fn tell<'a, R: Role>(
     }
 }
 
+/// Feeds an end, if it lends its events.
+#[inline(always)]
+fn feed_one<'a, R: Role>(
+    kept: &'a mut Kept<StreamEnd<R>>,
+    piece: &'a [u8],
+    fed: &mut FedEnd,
+    out: &mut SeenEvent<'a>,
+) -> u32
+    ensures { FeedsOne kept.old piece.now result fed.new out.new }
+{
+    if kept.gathering.is_some() {
+        return HandleFault::OtherKind.number();
+    }
+    tell(lend(kept, piece), fed, out)
+}
+
 /// Feeds the end of a handle whose events lend, as `StreamEnd::feed_ref` does, and shows the event. What an event of
 /// its kind hasn't stays as it is.
 #[unsafe(no_mangle)]
@@ -182,9 +198,7 @@ pub extern "C" fn proved_end_feed_lent<'a>(
         return HandleFault::NotOpen.number();
     }
     match slot.held() {
-        HeldEnd::LendingClient(kept) => tell(lend(kept, piece), fed, out),
-        HeldEnd::LendingServer(kept) => tell(lend(kept, piece), fed, out),
-        HeldEnd::Client(_) => HandleFault::OtherKind.number(),
-        HeldEnd::Server(_) => HandleFault::OtherKind.number(),
+        HeldEnd::Client(kept) => feed_one(kept, piece, fed, out),
+        HeldEnd::Server(kept) => feed_one(kept, piece, fed, out),
     }
 }

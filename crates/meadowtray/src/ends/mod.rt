@@ -3,7 +3,6 @@
 //! The exports take each kind of end, and refuse a handle that isn't open.
 
 mod answers;
-mod any_end;
 mod asking;
 mod batching;
 mod beginning;

@@ -1,5 +1,5 @@
 //! Handles opened with ends.
-ghost use Rattle.std.specs.Prelude.{◌≡◌, ◌≤◌, [], length, IfOk, IfErr};
+ghost use Rattle.std.specs.Prelude.{◌≡◌, IfOk, IfErr};
 ghost use Rattle.amqp_core.specs.Config.Configs.{set_up_as, settings_of};
 ghost use Rattle.amqp_core.specs.End.Beginning.{IsFaultIn, IsNewEnd};
 ghost use Rattle.amqp_core.specs.Faults.Numbers.{config_fault_view};
@@ -7,7 +7,7 @@ ghost use Rattle.amqp_core.specs.Config.Settings.{client_hello_view, config_view
 ghost use Rattle.amqp_model.specs.End.Fitting.{config_fault};
 ghost use Rattle.meadowtray.specs.declared.codec.owned.ArgFault.TheVariants as arg;
 ghost use Rattle.meadowtray.specs.declared.ends.opening.OpenFault.TheVariants.{Given};
-ghost use Rattle.meadowtray.specs.EndOpening.{client_said, client_set_up, open_status, server_said, server_set_up, BeginsAs, HoldsClient, HoldsServer, NotClient, NotClientHello, NotServer, NotServerHello, OpensClient, OpensServer, MakesPlace, MakesPlaceAt};
+ghost use Rattle.meadowtray.specs.EndOpening.{client_said, client_set_up, open_status, server_said, server_set_up, BeginsAs, GathersAs, HoldsClient, HoldsServer, NotClient, NotClientHello, NotServer, NotServerHello, OpensClient, OpensServer, MakesOne, MakesPlace, MakesPlaceAt};
 ghost use Rattle.meadowtray.specs.Handles.{Closes};
 ghost use Rattle.meadowtray.specs.Writing.{NotCounted};
 
@@ -15,8 +15,10 @@ use crate::codec::owned::{ArgFault, own_table};
 use crate::codec::statuses::{MISFIT, NO_ROOM, value_fault};
 use crate::ends::numbers::config_fault;
 use crate::handles::status;
-use amqp_core::{Client, ClientHello, Config, ConfigFault, End, Role, Server, ServerHello};
-use amqp_handle::{EndSlot, HandleFault, HeldEnd, Kept, Place};
+use amqp_core::{
+    Client, ClientHello, Config, ConfigFault, End, Role, Server, ServerHello, StreamEnd,
+};
+use amqp_handle::{EndSlot, Gathering, HandleFault, HeldEnd, Kept, Parts, Place, Said};
 use amqp_value::ShortStr;
 use std::alloc::Global;
 
@@ -133,16 +135,34 @@ fn server_hello(alloc: Global, given: &ServerSettings<'_>) -> Result<ServerHello
     })
 }
 
-/// An end, without a place for an event.
-fn keep<E: Drop>(alloc: Global, end: E) -> Result<Kept<E>, OpenFault>
-    ensures ok { IfOk result (λ kept. (kept.end.value ≡ end) × (kept.places.items ≡ [])) }
+/// What is kept beside an end: nothing where it lends, else what it gathers.
+fn gathering(alloc: Global, lends: bool) -> Result<Option<Box<Gathering>>, OpenFault>
+    ensures ok { IfOk result (λ gathering. GathersAs lends gathering) }
     ensures err { IfErr result (λ fault. fault ≡ Given arg.OutOfMemory) }
 {
-    let places = Vec::new(alloc);
+    if lends {
+        return Ok(None);
+    }
+    let Ok(gathering) = Box::new(alloc, Gathering::new(alloc)) else {
+        return Err(OpenFault::Given(ArgFault::OutOfMemory));
+    };
+    Ok(Some(gathering))
+}
+
+/// An end in a box of its own, with what it gathers.
+fn keep<R: Role>(
+    alloc: Global,
+    end: StreamEnd<R>,
+    lends: bool,
+) -> Result<Kept<StreamEnd<R>>, OpenFault>
+    ensures ok { IfOk result (λ kept. (kept.end.value ≡ end) × GathersAs lends kept.gathering) }
+    ensures err { IfErr result (λ fault. fault ≡ Given arg.OutOfMemory) }
+{
+    let gathering = gathering(alloc, lends)?;
     let Ok(end) = Box::new(alloc, end) else {
         return Err(OpenFault::Given(ArgFault::OutOfMemory));
     };
-    Ok(Kept { end, places })
+    Ok(Kept { end, gathering })
 }
 
 /// The end that is set up so.
@@ -205,11 +225,7 @@ fn hold_client(alloc: Global, given: &ClientSettings<'_>) -> Result<HeldEnd, Ope
     ensures err { IfErr result (λ fault. NotClient given.now fault) }
 {
     let end = make_client(alloc, given)?;
-    if given.lends {
-        let kept = keep(alloc, end.into_stream())?;
-        return Ok(HeldEnd::LendingClient(kept));
-    }
-    let kept = keep(alloc, end)?;
+    let kept = keep(alloc, end.into_stream(), given.lends)?;
     Ok(HeldEnd::Client(kept))
 }
 
@@ -219,11 +235,7 @@ fn hold_server(alloc: Global, given: &ServerSettings<'_>) -> Result<HeldEnd, Ope
     ensures err { IfErr result (λ fault. NotServer given.now fault) }
 {
     let end = make_server(alloc, given)?;
-    if given.lends {
-        let kept = keep(alloc, end.into_stream())?;
-        return Ok(HeldEnd::LendingServer(kept));
-    }
-    let kept = keep(alloc, end)?;
+    let kept = keep(alloc, end.into_stream(), given.lends)?;
     Ok(HeldEnd::Server(kept))
 }
 
@@ -272,27 +284,36 @@ pub extern "C" fn proved_end_close(slot: &mut EndSlot, alloc: Global) -> u32
 }
 
 /// Makes the next place, if it is this one. Those that are there stay as they are.
-fn make_place(alloc: Global, places: &mut Vec<Place>, place: usize) -> u32
-    ensures { MakesPlace places.old.items place result places.new.items }
+fn make_place(alloc: Global, gathering: &mut Gathering, place: usize) -> u32
+    ensures { MakesPlace gathering.old place result gathering.new }
 {
-    if place < places.len() {
+    if place < gathering.places.len() {
         return 0;
     }
-    if places.len() < place {
+    if gathering.places.len() < place {
         return NO_ROOM;
     }
     let made = Place {
-        event: None,
-        method: Vec::new(alloc),
-        header: Vec::new(alloc),
+        said: Said::Nothing,
+        parts: Parts::new(alloc),
     };
-    let Ok(()) = places.push(made) else {
+    let Ok(()) = gathering.places.push(made) else {
         return HandleFault::OutOfMemory.number();
     };
     0
 }
 
-/// Gives the end of a handle a place for an event, the next after those that it has, or one that it has.
+/// Makes it, if the end gathers.
+fn make_one<R: Role>(alloc: Global, kept: &mut Kept<StreamEnd<R>>, place: usize) -> u32
+    ensures { MakesOne kept.old place result kept.new }
+{
+    match &mut kept.gathering {
+        Some(gathering) => make_place(alloc, gathering, place),
+        None => HandleFault::OtherKind.number(),
+    }
+}
+
+/// Gives the end of a handle that gathers a place for an event, the next after those that it has, or one that it has.
 #[unsafe(no_mangle)]
 pub extern "C" fn proved_end_make_place(slot: &mut EndSlot, alloc: Global, place: usize) -> u32
     ensures { MakesPlaceAt slot.old.value place result slot.new.value }
@@ -301,9 +322,7 @@ pub extern "C" fn proved_end_make_place(slot: &mut EndSlot, alloc: Global, place
         return HandleFault::NotOpen.number();
     }
     match slot.held() {
-        HeldEnd::Client(kept) => make_place(alloc, &mut kept.places, place),
-        HeldEnd::Server(kept) => make_place(alloc, &mut kept.places, place),
-        HeldEnd::LendingClient(_) => HandleFault::OtherKind.number(),
-        HeldEnd::LendingServer(_) => HandleFault::OtherKind.number(),
+        HeldEnd::Client(kept) => make_one(alloc, kept, place),
+        HeldEnd::Server(kept) => make_one(alloc, kept, place),
     }
 }

@@ -3,21 +3,23 @@ ghost use Rattle.std.specs.Prelude.{◌≡◌, true, is_some};
 ghost use Rattle.std.specs.Borrow.{sem};
 ghost use Rattle.std.specs.Io.BufRead.{Rests};
 ghost use Rattle.amqp_model.specs.Output.Outputs.{output_octets};
+ghost use Rattle.amqp_core.specs.Stream.View.{endpoint_of};
+ghost use Rattle.amqp_core.specs.contracts.stream.StreamEnd as stream_row;
 ghost use Rattle.amqp_handle.specs.contracts.kept.Kept as kept_row;
 ghost use Rattle.meadowtray.specs.EndAnswers.{IsOutputOf, OutputOfEnd, WritesEnd, WritesKept};
 ghost use Rattle.meadowtray.specs.EndLending.{StaysSlot};
 
-use crate::ends::any_end::AnyEnd;
+use amqp_core::{Role, StreamEnd};
 use amqp_handle::{EndSlot, HandleFault, HeldEnd, Kept};
 
 /// More octets than the output has.
 const PAST_OUTPUT: u32 = 10;
 
-fn lend_output<'a, E: AnyEnd>(kept: &'a mut Kept<E>) -> &'a [u8]
-    ensures octets { result.now ≡ output_octets (E.endpoint kept.old.end.value).output }
-    ensures* after { sem 𝓛 (Rests (kept_row.the_row E.row) kept.entry (λ new. new ≡ kept.old)) }
+fn lend_output<'a, R: Role>(kept: &'a mut Kept<StreamEnd<R>>) -> &'a [u8]
+    ensures octets { result.now ≡ output_octets (endpoint_of kept.old.end.value).output }
+    ensures* after { sem 𝓛 (Rests (kept_row.the_row (stream_row.the_row R.row R.Hello.row R.Role)) kept.entry (λ new. new ≡ kept.old)) }
 {
-    let kept: &'a Kept<E> = kept;
+    let kept: &'a Kept<StreamEnd<R>> = kept;
     kept.end.output()
 }
 
@@ -30,8 +32,6 @@ fn end_output<'a>(slot: &'a mut EndSlot) -> &'a [u8]
     match slot.held() {
         HeldEnd::Client(kept) => lend_output(kept),
         HeldEnd::Server(kept) => lend_output(kept),
-        HeldEnd::LendingClient(kept) => lend_output(kept),
-        HeldEnd::LendingServer(kept) => lend_output(kept),
     }
 }
 
@@ -47,8 +47,8 @@ pub extern "C" fn proved_end_output<'a>(slot: &'a mut EndSlot, out: &mut &'a [u8
     0
 }
 
-fn wrote<E: AnyEnd>(kept: &mut Kept<E>, octets: usize) -> u32
-    ensures { WritesKept E.AnyEnd kept.old octets result kept.new }
+fn wrote<R: Role>(kept: &mut Kept<StreamEnd<R>>, octets: usize) -> u32
+    ensures { WritesKept kept.old octets result kept.new }
 {
     if octets > kept.end.output().len() {
         return PAST_OUTPUT;
@@ -68,7 +68,5 @@ pub extern "C" fn proved_end_wrote(slot: &mut EndSlot, octets: usize) -> u32
     match slot.held() {
         HeldEnd::Client(kept) => wrote(kept, octets),
         HeldEnd::Server(kept) => wrote(kept, octets),
-        HeldEnd::LendingClient(kept) => wrote(kept, octets),
-        HeldEnd::LendingServer(kept) => wrote(kept, octets),
     }
 }

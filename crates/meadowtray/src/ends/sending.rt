@@ -7,47 +7,47 @@ ghost use Rattle.amqp_method.specs.MethodView.{method_view};
 ghost use Rattle.meadowtray.specs.Sending.{SendsCall, SendsEnd, SendsKept, SentKept, SizedOne};
 
 use crate::codec::statuses::MISFIT;
-use crate::ends::any_end::AnyEnd;
 use crate::ends::messages::{own_header, own_method};
 use crate::ends::numbers::asked;
+use amqp_core::{Role, StreamEnd};
 use amqp_handle::{EndSlot, HandleFault, HeldEnd, Kept};
 use amqp_method::{Header, Message, Method, Properties};
 use std::alloc::Global;
 
 /// Sends a method that no content follows.
-fn send_alone<E: AnyEnd>(kept: &mut Kept<E>, channel: u16, method: Method) -> u32
+fn send_alone<R: Role>(kept: &mut Kept<StreamEnd<R>>, channel: u16, method: Method) -> u32
     requires { has_content (method_view method).kind ≡ false }
-    ensures { SentKept E.AnyEnd kept.old channel (letter_alone (method_view method)) result kept.new }
+    ensures { SentKept kept.old channel (letter_alone (method_view method)) result kept.new }
 {
     let message = Message::plain(method);
     asked(kept.end.send(channel, &message))
 }
 
 /// Sends a method with its content. The body is copied into the output alone.
-fn send_whole<E: AnyEnd>(
-    kept: &mut Kept<E>,
+fn send_whole<R: Role>(
+    kept: &mut Kept<StreamEnd<R>>,
     channel: u16,
     method: &Method,
     properties: &Properties,
     body: &[u8],
 ) -> u32
     requires { has_content (method_view method.now).kind ≡ true }
-    ensures { SentKept E.AnyEnd kept.old channel (letter_with (method_view method.now) (properties_view properties.now)
+    ensures { SentKept kept.old channel (letter_with (method_view method.now) (properties_view properties.now)
         body.now) result kept.new }
 {
     asked(kept.end.send_content(channel, method, properties, body))
 }
 
 /// Sends a method with its content, if the header says the body's size.
-fn send_sized<E: AnyEnd>(
-    kept: &mut Kept<E>,
+fn send_sized<R: Role>(
+    kept: &mut Kept<StreamEnd<R>>,
     channel: u16,
     method: &Method,
     header: &Header,
     body: &[u8],
 ) -> u32
     requires { has_content (method_view method.now).kind ≡ true }
-    ensures { SizedOne E.AnyEnd kept.old channel (method_view method.now) (header_view header.now) body.now result
+    ensures { SizedOne kept.old channel (method_view method.now) (header_view header.now) body.now result
         kept.new }
 {
     if header.body_size != body.len() as u64 {
@@ -57,16 +57,16 @@ fn send_sized<E: AnyEnd>(
 }
 
 /// Sends a method with the content whose header has this payload.
-fn send_content<E: AnyEnd>(
+fn send_content<R: Role>(
     alloc: Global,
-    kept: &mut Kept<E>,
+    kept: &mut Kept<StreamEnd<R>>,
     channel: u16,
     method: &Method,
     header: &[u8],
     body: &[u8],
 ) -> u32
     requires { has_content (method_view method.now).kind ≡ true }
-    ensures { SendsCall E.AnyEnd kept.old channel (method_view method.now) header.now body.now result kept.new }
+    ensures { SendsCall kept.old channel (method_view method.now) header.now body.now result kept.new }
 {
     match own_header(alloc, header) {
         Ok(made) => send_sized(kept, channel, method, &made, body),
@@ -75,15 +75,15 @@ fn send_content<E: AnyEnd>(
 }
 
 /// Sends a method, with a content if one follows it.
-fn send_method<E: AnyEnd>(
+fn send_method<R: Role>(
     alloc: Global,
-    kept: &mut Kept<E>,
+    kept: &mut Kept<StreamEnd<R>>,
     channel: u16,
     method: Method,
     header: &[u8],
     body: &[u8],
 ) -> u32
-    ensures { SendsCall E.AnyEnd kept.old channel (method_view method) header.now body.now result kept.new }
+    ensures { SendsCall kept.old channel (method_view method) header.now body.now result kept.new }
 {
     if method.has_content() {
         return send_content(alloc, kept, channel, &method, header, body);
@@ -98,15 +98,15 @@ fn send_method<E: AnyEnd>(
 }
 
 /// Sends the message of these octets.
-fn send_one<E: AnyEnd>(
+fn send_one<R: Role>(
     alloc: Global,
-    kept: &mut Kept<E>,
+    kept: &mut Kept<StreamEnd<R>>,
     channel: u16,
     method: &[u8],
     header: &[u8],
     body: &[u8],
 ) -> u32
-    ensures { SendsKept E.AnyEnd kept.old channel method.now header.now body.now result kept.new }
+    ensures { SendsKept kept.old channel method.now header.now body.now result kept.new }
 {
     match own_method(alloc, method) {
         Ok(made) => send_method(alloc, kept, channel, made, header, body),
@@ -133,7 +133,5 @@ pub extern "C" fn proved_end_send(
     match slot.held() {
         HeldEnd::Client(kept) => send_one(alloc, kept, channel, method, header, body),
         HeldEnd::Server(kept) => send_one(alloc, kept, channel, method, header, body),
-        HeldEnd::LendingClient(kept) => send_one(alloc, kept, channel, method, header, body),
-        HeldEnd::LendingServer(kept) => send_one(alloc, kept, channel, method, header, body),
     }
 }

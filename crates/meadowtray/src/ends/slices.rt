@@ -228,13 +228,11 @@ pub extern "C" fn proved_end_lend_content<'a>(
         return HandleFault::NotOpen.number();
     }
     match slot.held() {
-        HeldEnd::LendingClient(kept) => lend_with(
+        HeldEnd::Client(kept) => lend_with(
             alloc, kept, content, channel, method, header, body, pieces, count,
         ),
-        HeldEnd::LendingServer(kept) => lend_with(
+        HeldEnd::Server(kept) => lend_with(
             alloc, kept, content, channel, method, header, body, pieces, count,
         ),
-        HeldEnd::Client(_) => HandleFault::OtherKind.number(),
-        HeldEnd::Server(_) => HandleFault::OtherKind.number(),
     }
 }

@@ -1,5 +1,5 @@
 use Rattle.std.proofs.Common.{Some}
-use Rattle.amqp_handle.specs.declared.kept.HeldEnd.TheVariants.{Client, Server, LendingClient, LendingServer}
+use Rattle.amqp_handle.specs.declared.kept.HeldEnd.TheVariants.{Client, Server}
 use Rattle.meadowtray.specs.EndAsks.{AsksEnd}
 use Rattle.meadowtray.proofs.KeptEnds.{of_held}
 use Rattle.meadowtray.proofs.ends.asking.proved_end_ask.Goals as goal
@@ -13,13 +13,3 @@ pub returns-in-Server : goal.returns-in-Server
 returns-in-Server c =
     of_held (λ held. AsksEnd held c.args.given.now c.ask_one-in-Server.result c.ask_one-in-Server.new.channel (Some (Server c.ask_one-in-Server.new.kept)))
     c.args.slot.now c.is_open.new.self c.held.result.now (Server c.in-Server.kept) c.is_open.ensures.1 c.held.ensures.value c.in-Server.is c.ask_one-in-Server.ensures
-
-pub returns-in-LendingClient : goal.returns-in-LendingClient
-returns-in-LendingClient c =
-    of_held (λ held. AsksEnd held c.args.given.now c.ask_one-in-LendingClient.result c.ask_one-in-LendingClient.new.channel (Some (LendingClient c.ask_one-in-LendingClient.new.kept)))
-    c.args.slot.now c.is_open.new.self c.held.result.now (LendingClient c.in-LendingClient.kept) c.is_open.ensures.1 c.held.ensures.value c.in-LendingClient.is c.ask_one-in-LendingClient.ensures
-
-pub returns-in-LendingServer : goal.returns-in-LendingServer
-returns-in-LendingServer c =
-    of_held (λ held. AsksEnd held c.args.given.now c.ask_one-in-LendingServer.result c.ask_one-in-LendingServer.new.channel (Some (LendingServer c.ask_one-in-LendingServer.new.kept)))
-    c.args.slot.now c.is_open.new.self c.held.result.now (LendingServer c.in-LendingServer.kept) c.is_open.ensures.1 c.held.ensures.value c.in-LendingServer.is c.ask_one-in-LendingServer.ensures

@@ -17,7 +17,7 @@ returns-in-Ok g c =
           (c.in-Ok.ensures.begins c.requires body long));
       left = c.in-Ok.ensures.size;
       told = (refl, refl);
-      places = refl;
+      gathering = refl;
     }
 
 pub returns-in-Err : goal.returns-in-Err
@@ -32,5 +32,5 @@ returns-in-Err g c =
           (c.in-Err.ensures.begins c.requires body long));
       left = tt;
       told = (c.lend_fault.ensures, refl, c.in-Err.ensures.kept ∙ c.clear.ensures.items);
-      places = refl;
+      gathering = refl;
     }

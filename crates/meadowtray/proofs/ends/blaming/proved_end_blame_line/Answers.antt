@@ -1,5 +1,5 @@
 use Rattle.std.proofs.Common.{Some, refl}
-use Rattle.amqp_handle.specs.declared.kept.HeldEnd.TheVariants.{Client, Server, LendingClient, LendingServer}
+use Rattle.amqp_handle.specs.declared.kept.HeldEnd.TheVariants.{Client, Server}
 use Rattle.meadowtray.specs.Blaming.{LineOfEnd}
 use Rattle.meadowtray.proofs.KeptEnds.{of_held}
 use Rattle.meadowtray.proofs.ends.blaming.proved_end_blame_line.Goals as goal
@@ -13,13 +13,3 @@ pub returns-in-Server : goal.returns-in-Server
 returns-in-Server c =
     of_held (λ held. LineOfEnd held c.args.room.now c.write_blame-in-Server.result c.write_blame-in-Server.new.out c.write_blame-in-Server.new.room (Some (Server c.in-Server.kept)))
     c.args.slot.now c.is_open.new.self c.held.result.now (Server c.in-Server.kept) c.is_open.ensures.1 c.held.ensures.value c.in-Server.is ((c.write_blame-in-Server.ensures, refl), λ none. absurd cc)
-
-pub returns-in-LendingClient : goal.returns-in-LendingClient
-returns-in-LendingClient c =
-    of_held (λ held. LineOfEnd held c.args.room.now c.write_blame-in-LendingClient.result c.write_blame-in-LendingClient.new.out c.write_blame-in-LendingClient.new.room (Some (LendingClient c.in-LendingClient.kept)))
-    c.args.slot.now c.is_open.new.self c.held.result.now (LendingClient c.in-LendingClient.kept) c.is_open.ensures.1 c.held.ensures.value c.in-LendingClient.is ((c.write_blame-in-LendingClient.ensures, refl), λ none. absurd cc)
-
-pub returns-in-LendingServer : goal.returns-in-LendingServer
-returns-in-LendingServer c =
-    of_held (λ held. LineOfEnd held c.args.room.now c.write_blame-in-LendingServer.result c.write_blame-in-LendingServer.new.out c.write_blame-in-LendingServer.new.room (Some (LendingServer c.in-LendingServer.kept)))
-    c.args.slot.now c.is_open.new.self c.held.result.now (LendingServer c.in-LendingServer.kept) c.is_open.ensures.1 c.held.ensures.value c.in-LendingServer.is ((c.write_blame-in-LendingServer.ensures, refl), λ none. absurd cc)

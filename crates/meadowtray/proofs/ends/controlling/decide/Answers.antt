@@ -1,4 +1,5 @@
 use Rattle.std.proofs.Common.{refl, subst}
+use Rattle.amqp_core.specs.Stream.Controls.{StreamControlled}
 use Rattle.meadowtray.specs.Decisions.{decision_view}
 use Rattle.meadowtray.proofs.ends.controlling.decide.Goals as goal
 
@@ -6,8 +7,8 @@ pub returns : goal.returns
 returns g c =
     record {
       answer = c.control.result;
-      controlled = subst (λ end. g.E.AnyEnd.controlled end (decision_view c.args.decision.now) c.control.result c.control.new.end) c.deref_mut.ensures.value
+      controlled = subst (λ end. StreamControlled end (decision_view c.args.decision.now) c.control.result c.control.new.end) c.deref_mut.ensures.value
           c.control.ensures;
       told = c.asked.ensures;
-      places = refl;
+      gathering = refl;
     }

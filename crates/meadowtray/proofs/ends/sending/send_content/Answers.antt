@@ -7,7 +7,7 @@ use Rattle.meadowtray.proofs.ends.sending.send_content.Goals as goal
 
 pub returns-in-Ok : goal.returns-in-Ok
 returns-in-Ok g c =
-    of_sized g.E.AnyEnd c.args.kept.now c.args.channel (method_view c.args.method.now) (header_view c.in-Ok.made) c.args.header.now c.args.body.now
+    of_sized c.args.kept.now c.args.channel (method_view c.args.method.now) (header_view c.in-Ok.made) c.args.header.now c.args.body.now
     c.send_sized.result c.send_sized.new.kept c.requires c.in-Ok.ensures.ok c.send_sized.ensures
 
 pub returns-in-Err : goal.returns-in-Err

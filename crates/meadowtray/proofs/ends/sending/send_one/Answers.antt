@@ -6,7 +6,7 @@ use Rattle.meadowtray.proofs.ends.sending.send_one.Goals as goal
 
 pub returns-in-Ok : goal.returns-in-Ok
 returns-in-Ok g c =
-    of_call g.E.AnyEnd c.args.kept.now c.args.channel (method_view c.in-Ok.made) c.args.method.now c.args.header.now c.args.body.now c.send_method.result
+    of_call c.args.kept.now c.args.channel (method_view c.in-Ok.made) c.args.method.now c.args.header.now c.args.body.now c.send_method.result
     c.send_method.new.kept c.in-Ok.ensures.ok c.send_method.ensures
 
 pub returns-in-Err : goal.returns-in-Err

@@ -4,6 +4,7 @@ use Rattle.amqp_method.specs.Messages.{letter_with}
 use Rattle.amqp_method.specs.MethodView.{method_view}
 use Rattle.amqp_model.specs.End.Asks.{Send}
 use Rattle.amqp_channel.specs.Events.EventView.{message_of}
+use Rattle.amqp_core.specs.Stream.Asks.{StreamAsked}
 use Rattle.meadowtray.proofs.ends.sending.send_whole.Goals as goal
 
 pub returns : goal.returns
@@ -11,8 +12,8 @@ returns g c =
     let letter = letter_with (method_view c.args.method.now) (properties_view c.args.properties.now) c.args.body.now in
     record {
       answer = c.send_content.result;
-      asked = subst (λ end. g.E.AnyEnd.asked end (Send c.args.channel (message_of letter)) c.send_content.result c.send_content.new.self)
-          c.deref_mut.ensures.value c.send_content.ensures;
+      asked = subst (λ end. StreamAsked end (Send c.args.channel (message_of letter)) c.send_content.result c.send_content.new.self)
+          c.deref_mut.ensures.value (c.send_content.ensures.asked c.requires);
       told = c.asked.ensures;
-      places = refl;
+      gathering = refl;
     }

@@ -12,7 +12,7 @@ returns-in-Ok g c =
       answer = Ok c.in-Ok.frames;
       lends = subst (λ end. LendsContent end ask Lend (Ok c.in-Ok.frames) c.lend_content.new.self) c.deref_mut.ensures.value (c.in-Ok.ensures.lends c.requires);
       told = c.place.ensures;
-      places = refl;
+      gathering = refl;
     }
 
 pub returns-in-Err : goal.returns-in-Err
@@ -22,5 +22,5 @@ returns-in-Err g c =
       answer = Err c.in-Err.fault;
       lends = subst (λ end. LendsContent end ask Lend (Err c.in-Err.fault) c.lend_content.new.self) c.deref_mut.ensures.value (c.in-Err.ensures.lends c.requires);
       told = (c.lend_fault.ensures, refl);
-      places = refl;
+      gathering = refl;
     }
