@@ -1,5 +1,6 @@
 -- What an end behind a handle answers of itself, as it is told, and what a write of its output does.
 use Rattle.std.specs.Prelude.{Box, ◌≡◌, ◌<◌, ℕ, length, List, Option, Some, None, ◌⊎◌}
+use Rattle.std.specs.Global.{Global}
 use Rattle.amqp_model.specs.End.Answers.{channel_state, octets_gathered, reply_due}
 use Rattle.amqp_model.specs.End.Channels.{Agreed, End}
 use Rattle.amqp_model.specs.History.States.{State}
@@ -31,7 +32,7 @@ ToldAgreed (Some agreed) limits =
     × (limits.heartbeat ≡ agreed.heartbeat)
 
 -- what is kept of contents that aren't whole, by an end that gathers
-abbrev pub counts_in : Option (Box Gathering) → Counts
+abbrev pub counts_in : Option (Box Gathering Global) → Counts
 counts_in None = record { heads = 0; bodies = 0 }
 counts_in (Some gathering) = counts gathering.value
 

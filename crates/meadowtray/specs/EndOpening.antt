@@ -1,6 +1,7 @@
 -- A handle opened with an end: what C says of it, what the end is then set up with, and why it isn't opened.
 use Rattle.std.specs.Prelude.{Box, Bool, true, false, ◌≡◌, ◌<◌, ℕ, List, [], ◌∷◌, ◌++◌, length, Option, Some}
 use Rattle.std.specs.Prelude.{None, ◌⊎◌}
+use Rattle.std.specs.Global.{Global}
 use Rattle.amqp_value.specs.Whole.{table_encoded}
 use Rattle.amqp_model.specs.End.Fitting.{config_fault}
 use Rattle.amqp_model.specs.History.Negotiation as model
@@ -83,7 +84,7 @@ IsEmpty gathering =
     × (gathering.is_lost ≡ false)
 
 -- what is kept beside an end: nothing where it lends, else what it gathers
-abbrev pub GathersAs : (lends : Bool) → Option (Box Gathering) → Type 0
+abbrev pub GathersAs : (lends : Bool) → Option (Box Gathering Global) → Type 0
 GathersAs true gathering = gathering ≡ None
 GathersAs false None = ⊥
 GathersAs false (Some gathering) = IsEmpty gathering.value
@@ -155,12 +156,13 @@ pub data MakesPlace (old : Gathering) (place status : ℕ) (new : Gathering) : T
       → new.places.items ≡ old.places.items ++ (next ∷ []) → new ≡ record old { places = new.places }
       → MakesPlace old place status new
   -- memory is refused
-  refused : status ≡ 4 → new ≡ old → MakesPlace old place status new
+  refused : status ≡ 4 → new.places.items ≡ old.places.items → new ≡ record old { places = new.places }
+      → MakesPlace old place status new
   -- it isn't the next
   past : status ≡ 7 → length old.places.items < place → new ≡ old → MakesPlace old place status new
 
 -- an end that lends has no places
-abbrev pub MakesIn : Option (Box Gathering) → ℕ → ℕ → Option (Box Gathering) → Type 0
+abbrev pub MakesIn : Option (Box Gathering Global) → ℕ → ℕ → Option (Box Gathering Global) → Type 0
 MakesIn None place status new = (status ≡ 3) × (new ≡ None)
 MakesIn (Some old) place status None = ⊥
 MakesIn (Some old) place status (Some new) = MakesPlace old.value place status new.value

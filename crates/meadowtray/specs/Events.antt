@@ -2,6 +2,7 @@
 -- `amqp_handle`).
 use Rattle.std.specs.Prelude.{Box, ◌≡◌, ◌≤◌, ℕ, List, length, Bool, true, false, Option, Some, None, Result, Ok, Err}
 use Rattle.std.specs.Prelude.{slice_get}
+use Rattle.std.specs.Global.{Global}
 use Rattle.amqp_channel.specs.declared.events.Event.{Event}
 use Rattle.amqp_channel.specs.declared.events.Event.TheVariants as events
 use Rattle.amqp_channel.specs.declared.events.Reason.{Reason}
@@ -66,7 +67,7 @@ pub data ShowsAt (places : List Place) (place status : ℕ) (out : SeenEvent) : 
   missing : length places ≤ place → status ≡ 7 → ShowsAt places place status out
 
 -- an end that lends has no places
-abbrev pub ShowsIn : Option (Box Gathering) → ℕ → ℕ → SeenEvent → Type 0
+abbrev pub ShowsIn : Option (Box Gathering Global) → ℕ → ℕ → SeenEvent → Type 0
 ShowsIn None place status out = status ≡ 7
 ShowsIn (Some gathering) place status out = ShowsAt gathering.value.places.items place status out
 

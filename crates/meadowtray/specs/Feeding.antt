@@ -2,6 +2,7 @@
 -- `amqp_core`), and what is gathered of its events (`Gathered` of `amqp_handle`).
 use Rattle.std.specs.Prelude.{Box, ◌≡◌, ◌≤◌, ℕ, List, length, true, Option, Some, None, Result, Ok, Err}
 use Rattle.std.specs.Prelude.{slice_get}
+use Rattle.std.specs.Global.{Global}
 use Rattle.amqp_model.specs.End.Closes.{number_of}
 use Rattle.amqp_channel.specs.Events.Closes.{code_view}
 use Rattle.amqp_model.specs.Lent.Alike.{LentEvent}
@@ -25,17 +26,20 @@ abbrev pub TellsCode : CoreFault → ℕ → Type 0
 TellsCode (faults.Peer code) told = told ≡ number_of (code_view code)
 TellsCode fault told = Unit {0}
 
--- the number of what is said at a place
-pub record TellsKind (places : List Place) (place : ℕ) (kind : ℕ) : Type 0 where
-  pub there : Place
-  pub found : slice_get places place ≡ Some there
-  pub kind_is : kind ≡ said_number there.said
+-- the number of what is said at a place, 0 where there is no such place
+abbrev number_there : Option Place → ℕ
+number_there None = 0
+number_there (Some there) = said_number there.said
+
+abbrev pub number_at : List Place → (place : ℕ) → ℕ
+number_at places place = number_there (slice_get places place)
 
 -- what came of a piece is gathered and told, or memory is refused for it
 pub data GathersStep (event : Option LentEvent) (before : Gathering) (place taken status : ℕ) (out : FedEnd)
     (after : Gathering) : Type 0 where
   gathers :
-      status ≡ 0 → out.taken ≡ taken → Gathers event before place after → TellsKind after.places.items place out.kind
+      status ≡ 0 → out.taken ≡ taken → Gathers event before place after
+      → out.kind ≡ number_at after.places.items place
       → GathersStep event before place taken status out after
   refused : status ≡ 403 → after.is_lost ≡ true → GathersStep event before place taken status out after
 
@@ -60,8 +64,8 @@ pub data FeedsGathering {R H : Type 0} {G : Ghosts R H} (old : StreamEnd R H G) 
       → FeedsGathering old before place piece status out new after
 
 -- one that lends is fed by another call
-abbrev pub FeedsIf : {R H : Type 0} {G : Ghosts R H} → (old : StreamEnd R H G) → Option (Box Gathering) → ℕ → List ℕ → ℕ
-    → FedEnd → (new : StreamEnd R H G) → Option (Box Gathering) → Type 0
+abbrev pub FeedsIf : {R H : Type 0} {G : Ghosts R H} → (old : StreamEnd R H G) → Option (Box Gathering Global) → ℕ → List ℕ → ℕ
+    → FedEnd → (new : StreamEnd R H G) → Option (Box Gathering Global) → Type 0
 FeedsIf old None place piece status out new after = (status ≡ 3) × (new ≡ old) × (after ≡ None)
 FeedsIf old (Some before) place piece status out new None = ⊥
 FeedsIf old (Some before) place piece status out new (Some after) =

@@ -3,12 +3,12 @@ ghost use Rattle.std.specs.Prelude.{◌≡◌, ◌<◌, length};
 ghost use Rattle.meadowtray.specs.EndNumbers.{core_status};
 ghost use Rattle.amqp_core.specs.Stream.StepView.{came_lent};
 ghost use Rattle.amqp_core.specs.Stream.View.{given_in};
-ghost use Rattle.meadowtray.specs.Feeding.{FeedsEnd, FeedsGathering, FeedsOne, GathersStep, TellsCode};
+ghost use Rattle.meadowtray.specs.Feeding.{FeedsEnd, FeedsGathering, FeedsOne, GathersStep, TellsCode, number_at};
 
 use crate::codec::statuses::NO_ROOM;
 use crate::ends::numbers::said_of;
 use amqp_core::{CoreFault, Role, Step, StreamEnd};
-use amqp_handle::{EndSlot, Gathering, HandleFault, HeldEnd, Kept};
+use amqp_handle::{EndSlot, Gathering, HandleFault, HeldEnd, Kept, Place};
 
 /// The status of an end's fault is this and the fault's number.
 const CORE_FAULTS: u32 = 400;
@@ -46,6 +46,17 @@ pub(crate) fn tell_fault(fault: CoreFault, out: &mut FedEnd) -> u32
     }
 }
 
+/// The number of what is said at a place, 0 where there is no such place.
+#[inline(always)]
+fn number_at(places: &[Place], place: usize) -> u8
+    ensures { result ≡ number_at places.now place }
+{
+    if place < places.len() {
+        return said_of(&places[place].said);
+    }
+    0
+}
+
 /// Gathers what came of a piece, and tells what is said at a place that is there.
 #[inline(always)]
 fn gather<R: Role>(
@@ -63,7 +74,7 @@ fn gather<R: Role>(
     match gathering.take(alloc, place, end.event(step)) {
         Ok(()) => {
             out.taken = step.octets;
-            out.kind = said_of(&gathering.places[place].said);
+            out.kind = number_at(&gathering.places, place);
             0
         }
         Err(_) => {

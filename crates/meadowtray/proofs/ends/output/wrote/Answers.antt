@@ -1,4 +1,4 @@
-use Rattle.std.proofs.Common.{refl, inl, subst, ◌≤◌, length, arith}
+use Rattle.std.proofs.Common.{◌≤◌, length, refl, inl, ap, subst, ◌∙◌}
 use Rattle.amqp_model.specs.Output.Outputs.{output_octets}
 use Rattle.amqp_core.specs.Stream.View.{endpoint_of}
 use Rattle.amqp_core.specs.Stream.Writes.{StreamWrote}
@@ -6,5 +6,7 @@ use Rattle.meadowtray.proofs.ends.output.wrote.Goals as goal
 
 pub returns : goal.returns
 returns g c =
-    let wrote = subst (λ end. StreamWrote end c.args.octets c.wrote.new.self) c.deref_mut.ensures.value c.wrote.ensures in
-    inl (refl, record { there = _; wrote = wrote }, refl)
+    let octets = c.args.octets in
+    let wrote = subst (λ end. StreamWrote end octets c.wrote.new.self) c.deref_mut.ensures.value c.wrote.ensures in
+    let output = c.output.ensures.octets ∙ ap (λ end. output_octets (endpoint_of end).output) c.deref.ensures in
+    inl (refl, record { there = subst (λ output. octets ≤ length output) output c.if-octets-output.false; wrote = wrote }, refl)
