@@ -128,6 +128,7 @@ uint32_t proved_server_open(slot *slot, const server_settings *settings);
 uint32_t proved_end_close(slot *slot);
 uint32_t proved_end_make_place(slot *slot, size_t place);
 uint32_t proved_end_feed(slot *slot, size_t place, const uint8_t *piece, size_t length, fed_end *fed);
+uint32_t proved_end_feed_shown(slot *slot, const uint8_t *piece, size_t length, fed_end *fed, seen_event *seen);
 uint32_t proved_end_feed_lent(slot *slot, const uint8_t *piece, size_t length, fed_end *fed, seen_event *seen);
 uint32_t proved_end_lend_batch(slot *slot, const uint8_t *piece, size_t length, event_place *places, size_t capacity,
 			       fed_end *fed, size_t *count);
@@ -281,7 +282,7 @@ static seen_event *seen_of(mt_event *event)
 	return (seen_event *)event;
 }
 
-/* Feeds an end that keeps its events, at a place that is made where it isn't there yet. */
+/* Feeds an end that gathers, at a place that is made where it isn't there yet. */
 static uint32_t feed_at(mt_end *end, size_t place, const uint8_t *piece, size_t length, fed_end *fed)
 {
 	uint32_t status = proved_end_feed((slot *)end, place, piece, length, fed);
@@ -298,18 +299,21 @@ static uint32_t show(mt_end *end, size_t place, mt_event *event)
 	return proved_end_event((slot *)end, place, seen_of(event));
 }
 
-/* Feeds an end that keeps its events, and shows the event. */
+/* Feeds an end that gathers, and shows the event. Its first place is made where it isn't there yet. */
 static uint32_t feed_and_show(mt_end *end, const uint8_t *piece, size_t length, mt_event *event)
 {
 	fed_end fed = {0, 0, MT_EVENT_NONE};
-	uint32_t status = feed_at(end, 0, piece, length, &fed);
+	uint32_t status = proved_end_feed_shown((slot *)end, piece, length, &fed, seen_of(event));
 
+	if (status == MT_NO_ROOM) {
+		status = proved_end_make_place((slot *)end, 0);
+		if (status == MT_OK)
+			status = proved_end_feed_shown((slot *)end, piece, length, &fed, seen_of(event));
+	}
 	event->taken = fed.taken;
-	event->code = fed.code;
-	event->kind = fed.kind;
-	if (status != MT_OK || fed.kind == MT_EVENT_NONE)
-		return status;
-	return show(end, 0, event);
+	if (status != MT_OK)
+		event->code = fed.code;
+	return status;
 }
 
 uint32_t mt_end_feed(mt_end *end, const uint8_t *piece, size_t length, mt_event *event)

@@ -764,8 +764,8 @@ uint32_t mt_end_octets_taken(mt_end *end, uint64_t *octets);
 /* How many octets were taken of a frame that isn't whole yet, or of the protocol header. */
 uint32_t mt_end_pending(mt_end *end, size_t *pending);
 
-/* How many octets the end keeps for its peer: of each channel the header of the content under way and what has come of
- * its body, and those that are pending. Neither this nor the next looks at the channels one by one. */
+/* How many octets the end keeps for its peer: of each channel the payloads of the method and of the header of the
+ * content under way and what has come of its body, and those that are pending. Neither this nor the next looks at the channels one by one. */
 uint32_t mt_end_kept(mt_end *end, size_t *octets);
 
 /* How many octets are kept of the bodies of contents that aren't whole yet, on all channels: the sum of `gathered`. */

@@ -199,15 +199,19 @@ EndsWith event old new = new ≡ old
 
 -- ---- an event
 
-abbrev pub other_said : Option Event → Said
-other_said None = Nothing
-other_said (Some event) = said.Other event
+-- an event is said, or nothing
+abbrev pub SaysEvent : Option Event → Said → Type 0
+SaysEvent None told = told ≡ Nothing
+SaysEvent (Some event) (said.Other boxed) = boxed.value ≡ event
+SaysEvent (Some event) told = ⊥
 
 -- an event is said as it is, but for one whose text is too long for any end to lend it
 pub record SaysOwned (event : LentEvent) (old : Gathering) (place : ℕ) (new : Gathering) : Type 0 where
   pub owned : Option Event
   pub is_owned : IsOwned event (event_there owned)
-  pub says : SaysAt old place (other_said owned) new
+  pub told : Said
+  pub told_is : SaysEvent owned told
+  pub says : SaysAt old place told new
 
 -- what it ends is let go, and it is said
 pub record TakesOther (event : LentEvent) (old : Gathering) (place : ℕ) (new : Gathering) : Type 0 where

@@ -70,7 +70,7 @@ pub enum Said {
     /// A message on this channel, and whether it has a content.
     Message(u16, bool),
     /// Any other event.
-    Other(Event),
+    Other(Box<Event>),
 }
 
 /// The place of what an end told. The octets are those of a message.
@@ -217,7 +217,7 @@ impl Gathering {
     }
 
     /// A method begins a content.
-    #[inline(always)]
+    #[inline(never)]
     fn begin(&mut self, alloc: Global, channel: u16, payload: &[u8]) -> Result<(), OutOfMemory>
         ensures { OnOk result (Begun self.old channel payload.now self.new) }
     {
@@ -230,7 +230,7 @@ impl Gathering {
     }
 
     /// Its header comes.
-    #[inline(always)]
+    #[inline(never)]
     fn head(&mut self, alloc: Global, channel: u16, payload: &[u8]) -> Result<(), OutOfMemory>
         ensures { OnOk result (Headed self.old channel payload.now self.new) }
     {
@@ -242,7 +242,7 @@ impl Gathering {
     }
 
     /// A part of its body comes.
-    #[inline(always)]
+    #[inline(never)]
     fn add(&mut self, alloc: Global, channel: u16, part: &[u8]) -> Result<(), OutOfMemory>
         ensures { OnOk result (Added self.old channel part.now self.new) }
     {
@@ -288,7 +288,7 @@ impl Gathering {
     }
 
     /// Says a method without content at a place.
-    #[inline(always)]
+    #[inline(never)]
     fn say_method(&mut self, place: usize, channel: u16, payload: &[u8]) -> Result<(), OutOfMemory>
         requires { place < length self.old.places.items }
         ensures { OnOk result (SaysMethod self.old place channel payload.now self.new) }
@@ -338,6 +338,9 @@ impl Gathering {
     {
         match event.to_owned(alloc) {
             Ok(Some(event)) => {
+                let Ok(event) = Box::new(alloc, event) else {
+                    return Err(OutOfMemory);
+                };
                 self.say(place, Said::Other(event));
                 Ok(())
             }

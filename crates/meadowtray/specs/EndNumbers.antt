@@ -55,4 +55,4 @@ event_number events.OpenAsked = 14
 abbrev pub said_number : Said → ℕ
 said_number said.Nothing = 0
 said_number (said.Message channel whole) = 3
-said_number (said.Other event) = event_number event
+said_number (said.Other boxed) = event_number boxed.value

@@ -1,6 +1,6 @@
 -- What is said at a place of an end that gathers, as C reads it. Read before: what is gathered (`Gathered` of
 -- `amqp_handle`).
-use Rattle.std.specs.Prelude.{Box, ◌≡◌, ◌≤◌, ℕ, List, length, Bool, true, false, Option, Some, None, Result, Ok, Err}
+use Rattle.std.specs.Prelude.{Box, ◌≡◌, ◌≢◌, ◌≤◌, ℕ, List, length, Bool, true, false, Option, Some, None, Result, Ok, Err}
 use Rattle.std.specs.Prelude.{slice_get}
 use Rattle.std.specs.Global.{Global}
 use Rattle.amqp_channel.specs.declared.events.Event.{Event}
@@ -16,8 +16,10 @@ use Rattle.amqp_handle.specs.declared.gathering.Said.TheVariants as said
 use Rattle.amqp_handle.specs.declared.kept.HeldEnd.{HeldEnd}
 use Rattle.amqp_handle.specs.declared.kept.Kept.{Kept}
 use Rattle.meadowtray.specs.EndNumbers.{said_number}
+use Rattle.meadowtray.specs.Feeding.{FeedsOne}
 use Rattle.meadowtray.specs.HeldEnds.{Of}
 use Rattle.meadowtray.specs.declared.ends.events.SeenEvent.{SeenEvent}
+use Rattle.meadowtray.specs.declared.ends.feeding.FedEnd.{FedEnd}
 
 -- the octets of a message, and whether it has a content
 abbrev pub ShowsContent : Bool → Parts → SeenEvent → Type 0
@@ -54,7 +56,7 @@ abbrev pub ShowsSaid : Said → Parts → SeenEvent → Type 0
 ShowsSaid said.Nothing parts out = Unit {0}
 ShowsSaid (said.Message channel whole) parts out =
     (out.channel ≡ channel) × (out.method.now ≡ parts.method.items) × ShowsContent whole parts out
-ShowsSaid (said.Other event) parts out = ShowsParts event out
+ShowsSaid (said.Other boxed) parts out = ShowsParts boxed.value out
 
 pub record ShowsPlace (place : Place) (out : SeenEvent) : Type 0 where
   pub kind : out.kind ≡ said_number place.said
@@ -74,3 +76,17 @@ ShowsIn (Some gathering) place status out = ShowsAt gathering.value.places.items
 -- a handle that isn't open is refused
 abbrev pub ShowsEnd : Option HeldEnd → ℕ → ℕ → SeenEvent → Type 0
 ShowsEnd held place status out = Of status (λ R H G kept. ShowsIn kept.gathering place status out) held
+
+-- ---- fed and shown
+
+-- A piece is fed to an end at its first place, and what is said there is shown, where the feed is well.
+pub data FeedsShown {R H : Type 0} {G : Ghosts R H} (old : Kept (StreamEnd R H G)) (piece : List ℕ) (status : ℕ)
+    (fed : FedEnd) (out : SeenEvent) : Type 0 where
+  stops : (after : Kept (StreamEnd R H G)) → FeedsOne old 0 piece status fed after → status ≢ 0
+      → FeedsShown old piece status fed out
+  shows :
+      (after : Kept (StreamEnd R H G)) → FeedsOne old 0 piece 0 fed after → ShowsIn after.gathering 0 status out
+      → FeedsShown old piece status fed out
+
+abbrev pub FeedsShownEnd : Option HeldEnd → List ℕ → ℕ → FedEnd → SeenEvent → Type 0
+FeedsShownEnd held piece status fed out = Of status (λ R H G kept. FeedsShown kept piece status fed out) held

@@ -178,7 +178,8 @@ static void send_content(size_t most)
 			gathered = channel_of(&server, 1).gathered;
 		CHECK(mt_end_gathered_in_all(&server, &in_all) == MT_OK && in_all == channel_of(&server, 1).gathered);
 		CHECK(mt_end_pending(&server, &pending) == MT_OK && mt_end_kept(&server, &kept) == MT_OK);
-		CHECK(kept == pending + in_all || kept == pending + in_all + message.header.length);
+		CHECK(kept == pending + in_all || kept == pending + in_all + message.method.length ||
+		      kept == pending + in_all + message.method.length + message.header.length);
 		CHECK(carry(&client, &server, most, &event, &carried) == MT_OK && carried > 0);
 		CHECK(mt_end_pending(&server, &pending) == MT_OK && pending < 8192);
 	} while (event.kind == MT_EVENT_NONE);
@@ -186,6 +187,84 @@ static void send_content(size_t most)
 	CHECK(mt_end_gathered_in_all(&server, &gathered) == MT_OK && gathered == 0);
 	expect_publish(&event, "orders", body);
 	CHECK(mt_end_event(&server, &event) == MT_OK);
+	expect_publish(&event, "orders", body);
+	close_ends();
+}
+
+/* Contents of three frames each, sent on two channels at once, so that their frames come in turn: each is told whole. */
+static void gather_two(size_t most)
+{
+	static uint8_t bodies[3][20000];
+	mt_octets body;
+	mt_message message;
+	mt_event event;
+	unsigned events[16] = {0}, told[3] = {0};
+	size_t carried, in_all, greatest = 0;
+	uint16_t channel;
+
+	shake_hands(SIZE_MAX);
+	CHECK(mt_end_open_channel(&client, &channel) == MT_OK && channel == 2);
+	settle(SIZE_MAX, events);
+	for (int sent = 0; sent < 2; ++sent)
+		for (channel = 1; channel <= 2; ++channel) {
+			for (size_t i = 0; i < sizeof bodies[channel]; ++i)
+				bodies[channel][i] = (uint8_t)(i * 11 + channel);
+			body = mt_octets_at(bodies[channel], sizeof bodies[channel]);
+			message = publish(channel == 1 ? "one" : "two", body);
+			CHECK(mt_end_send(&client, channel, &message) == MT_OK);
+		}
+	do {
+		CHECK(carry(&client, &server, most, &event, &carried) == MT_OK);
+		if (event.kind == MT_EVENT_TOLD) {
+			channel = event.channel;
+			CHECK(channel == 1 || channel == 2);
+			++told[channel];
+			event.channel = 1;
+			body = mt_octets_at(bodies[channel], sizeof bodies[channel]);
+			expect_publish(&event, channel == 1 ? "one" : "two", body);
+		}
+		CHECK(mt_end_gathered_in_all(&server, &in_all) == MT_OK);
+		CHECK(in_all == channel_of(&server, 1).gathered + channel_of(&server, 2).gathered);
+		greatest = in_all > greatest ? in_all : greatest;
+	} while (carried > 0);
+	CHECK(told[1] == 2 && told[2] == 2);
+	/* both were under way at once */
+	CHECK(greatest > 20000 && in_all == 0);
+	close_ends();
+}
+
+/* A channel that is closed in the middle of a content: what has come of it is let go, and the channel can be used again. */
+static void gather_half(void)
+{
+	static uint8_t octets[20000];
+	mt_octets body = {octets, sizeof octets}, text = mt_text("enough");
+	mt_message message;
+	mt_event event;
+	unsigned events[16] = {0};
+	size_t carried, in_all, kept;
+	uint16_t channel;
+
+	shake_hands(SIZE_MAX);
+	message = publish("orders", body);
+	CHECK(mt_end_send(&client, 1, &message) == MT_OK);
+	do
+		CHECK(carry(&client, &server, 4096, &event, &carried) == MT_OK && event.kind == MT_EVENT_NONE);
+	while (channel_of(&server, 1).gathered == 0);
+	CHECK(mt_end_gathered_in_all(&server, &in_all) == MT_OK && in_all > 0);
+	CHECK(mt_end_close_channel(&server, 1, 406, text) == MT_OK);
+	settle(SIZE_MAX, events);
+	CHECK(events[MT_EVENT_TOLD] == 0 && events[MT_EVENT_DISCARDED] > 0);
+	CHECK(events[MT_EVENT_CHANNEL_CLOSED] == 2);
+	CHECK(mt_end_gathered_in_all(&server, &in_all) == MT_OK && in_all == 0);
+	CHECK(mt_end_kept(&server, &kept) == MT_OK && kept == 0);
+	CHECK(mt_end_open_channel(&client, &channel) == MT_OK && channel == 1);
+	settle(SIZE_MAX, events);
+	body.length = 5;
+	message = publish("orders", body);
+	CHECK(mt_end_send(&client, 1, &message) == MT_OK);
+	do
+		CHECK(carry(&client, &server, SIZE_MAX, &event, &carried) == MT_OK && carried > 0);
+	while (event.kind == MT_EVENT_NONE);
 	expect_publish(&event, "orders", body);
 	close_ends();
 }
@@ -737,10 +816,12 @@ static bool lives(unsigned long requests)
 		uint32_t status = carry(from, to, SIZE_MAX, &event, &carried);
 
 		well = status == MT_OK;
-		if (status == MT_OUT_OF_MEMORY && event.kind != MT_EVENT_NONE) {
-			/* the event is there, and is shown once there is memory again */
+		if (status == MT_END_OUT_OF_MEMORY) {
+			/* what came is lost, so nothing that comes later is told */
+			const uint8_t octet = 1;
+
 			left = 1000;
-			CHECK(mt_end_event(to, &event) == MT_OK);
+			CHECK(mt_end_feed(to, &octet, 1, &event) == MT_END_FAILED);
 			left = 0;
 		}
 		idle = carried == 0 ? idle + 1 : 0;
@@ -789,6 +870,9 @@ int main(void)
 	shake_hands(SIZE_MAX);
 	close_ends();
 	send_content(SIZE_MAX);
+	gather_two(7);
+	gather_two(SIZE_MAX);
+	gather_half();
 	take_batches();
 	converse();
 	refuse();

@@ -26,9 +26,13 @@ fn settle(client: &mut End, server: &mut End) {
 }
 
 fn connected() -> (Client, Server) {
+    connected_with(true)
+}
+
+fn connected_with(lends: bool) -> (Client, Server) {
     let limits = Limits {
         frame_max: 4096,
-        lends: true,
+        lends,
         ..Limits::default()
     };
     let mut client = Client::new(&ClientSettings {
@@ -110,11 +114,23 @@ fn what_waits_goes_first() {
 }
 
 #[test]
-fn an_end_that_gathers_begins_none() {
-    let mut client = Client::new(&ClientSettings::default()).unwrap();
+fn an_end_that_gathers_begins_one_too() {
+    let (mut client, mut server) = connected_with(false);
     let (method, header) = payloads(3);
     let mut content = Content::new().unwrap();
-    assert_eq!(client.begin_content(&mut content, 1, &method, &header), Err(Status::OTHER_KIND));
+    let mut sent = client.begin_content(&mut content, 1, &method, &header).unwrap().to_vec();
+    sent.extend_from_slice(content.write(b"abc").unwrap());
+    let mut at = 0;
+    while at < sent.len() {
+        let fed = server.feed(&sent[at..]).unwrap();
+        at += fed.octets;
+        if let Some(Event::Told(channel, message)) = fed.event {
+            assert_eq!((channel, message.method, message.header), (1, &method[..], &header[..]));
+            assert_eq!(message.body, b"abc");
+            assert_eq!(at, sent.len());
+        }
+    }
+    assert_eq!(at, sent.len());
 }
 
 #[test]

@@ -286,7 +286,7 @@ fn what_is_kept() {
         rest = &rest[octets..];
     }
     assert_eq!((server.gathered(1), server.gathered_in_all()), (4088, 4088));
-    assert_eq!(server.kept(), server.pending() + header.len() + 4088);
+    assert_eq!(server.kept(), server.pending() + method.len() + header.len() + 4088);
 }
 
 #[test]

@@ -1,8 +1,9 @@
 //! Events as C reads them.
 ghost use Rattle.std.specs.Prelude.{◌≡◌};
-ghost use Rattle.meadowtray.specs.Events.{ShowsAt, ShowsContent, ShowsEnd, ShowsIn, ShowsParts, ShowsPlace, ShowsReason};
+ghost use Rattle.meadowtray.specs.Events.{FeedsShown, FeedsShownEnd, ShowsAt, ShowsContent, ShowsEnd, ShowsIn, ShowsParts, ShowsPlace, ShowsReason};
 
 use crate::codec::statuses::NO_ROOM;
+use crate::ends::feeding::{FedEnd, feed_one};
 use crate::ends::numbers::said_of;
 use amqp_core::{Event, Reason, Role, StreamEnd};
 use amqp_handle::{EndSlot, Gathering, HandleFault, HeldEnd, Kept, Parts, Place, Said};
@@ -150,5 +151,42 @@ pub extern "C" fn proved_end_event<'a>(
     match slot.held() {
         HeldEnd::Client(kept) => show_in(kept, place, out),
         HeldEnd::Server(kept) => show_in(kept, place, out),
+    }
+}
+
+/// Feeds an end that gathers at its first place, and shows what is said there.
+#[inline(always)]
+fn feed_shown<'a, R: Role>(
+    kept: &'a mut Kept<StreamEnd<R>>,
+    piece: &[u8],
+    fed: &mut FedEnd,
+    out: &mut SeenEvent<'a>,
+) -> u32
+    ensures { FeedsShown kept.old piece.now result fed.new out.new }
+{
+    let status = feed_one(kept, 0, piece, fed);
+    if status != 0 {
+        return status;
+    }
+    let kept: &'a Kept<StreamEnd<R>> = kept;
+    show_in(kept, 0, out)
+}
+
+/// Feeds the end of a handle that gathers at its first place, and shows what is said there.
+#[unsafe(no_mangle)]
+pub extern "C" fn proved_end_feed_shown<'a>(
+    slot: &'a mut EndSlot,
+    piece: &[u8],
+    fed: &mut FedEnd,
+    out: &mut SeenEvent<'a>,
+) -> u32
+    ensures { FeedsShownEnd slot.old.value piece.now result fed.new out.new }
+{
+    if !slot.is_open() {
+        return HandleFault::NotOpen.number();
+    }
+    match slot.held() {
+        HeldEnd::Client(kept) => feed_shown(kept, piece, fed, out),
+        HeldEnd::Server(kept) => feed_shown(kept, piece, fed, out),
     }
 }

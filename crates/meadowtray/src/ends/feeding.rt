@@ -107,7 +107,7 @@ fn feed<R: Role>(
 }
 
 /// Feeds an end, if it gathers.
-fn feed_one<R: Role>(
+pub(crate) fn feed_one<R: Role>(
     kept: &mut Kept<StreamEnd<R>>,
     place: usize,
     piece: &[u8],
