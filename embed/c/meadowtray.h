@@ -622,9 +622,8 @@ typedef struct mt_content {
 
 uint32_t mt_content_open(mt_content *content);
 
-/* Begins a content: by the payloads of its method and of its content header,
- * whose `body_size` says how long the body will be. `octets` are the frames of both; those of the body come by
- * mt_content_write, as its octets come:
+/* Begins a content: by the payloads of its method and of its content header, whose `body_size` says how long the body
+ * will be. `octets` are the frames of both; those of the body come by mt_content_write, as its octets come:
  *
  *     status = mt_end_begin_content(&end, &content, channel, method, header, &octets);
  *     while (status == MT_OK && put(octets) && mt_content_left(&content, &left) == MT_OK && left > 0)
@@ -648,9 +647,8 @@ uint32_t mt_content_write(mt_content *content, const uint8_t *part, size_t lengt
  * mt_end_send sends them, and without the copy. pieces[0] and so on are to be written in their order, all of them before
  * anything else that the end puts: they count as put and as written. `count` says how many there are.
  *
- * MT_WAITS, MT_MISFIT and the refusals are as at mt_end_begin_content, and
- * MT_MISFIT stands for a header that says another size than the body's, too. MT_NO_ROOM where `capacity` is less than
- * mt_end_pieces answers. With each of these nothing is lent, and the end is as it was. MT_CUT would say that it was less
+ * MT_WAITS, MT_MISFIT and the refusals are as at mt_end_begin_content, and MT_MISFIT stands for a header that says
+ * another size than the body's, too. MT_NO_ROOM where `capacity` is less than mt_end_pieces answers. With each of these nothing is lent, and the end is as it was. MT_CUT would say that it was less
  * than was wanted all the same, and doesn't come.
  *
  * The parts of the body are lent by the caller's own, which stays as long; what stands around them by the content, until

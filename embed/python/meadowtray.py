@@ -707,8 +707,8 @@ class _End(_Open):
         _check(_end_send(self._handle, channel, message))
 
     def begin_content(self, content, channel, method, header):
-        """Begins a content by the payloads of its method and of its header. The answer is
-        what is to be written first; the frames of the body come by the content's `write`."""
+        """Begins a content by the payloads of its method and of its header. The answer is what is to be written first;
+        the frames of the body come by the content's `write`."""
         lent = _Lent()
         parts = (_Octets(*lent.octets(part)) for part in (method, header))
         octets = _Octets()
