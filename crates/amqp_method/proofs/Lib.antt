@@ -1,5 +1,6 @@
 pub mod ArgsLemmas
 pub mod CheckLemmas
+pub mod CommonKinds
 pub mod CompleteLemmas
 pub mod FieldFaults
 pub mod FieldLemmas

@@ -1,5 +1,5 @@
 //! Checking methods: the faults of reading, without what is read.
-ghost use Rattle.std.specs.Prelude.{◌≡◌, ◌≤◌, length, map, Some, IfOk};
+ghost use Rattle.std.specs.Prelude.{◌≡◌, ◌≤◌, length, map, Ok, Some, IfOk, IfSome};
 ghost use Rattle.amqp_method.specs.Checking.{kind_read, past_bit as bit_past, past_field as field_past, past_fields as fields_past};
 ghost use Rattle.amqp_method.specs.Reading.{Equals, call_at, method_at};
 ghost use Rattle.amqp_method.specs.ReadsMethod.{ChecksMethod};
@@ -97,6 +97,86 @@ fn check_args(kind: Kind, octets: &[u8], end: usize) -> Result<(), MethodFault>
 {
     let after = past_fields(row_for(kind).fields, octets, end)?;
     read_end(after, end)
+}
+
+/// The octets after a field, if it is there.
+#[inline(always)]
+fn past(kind: FieldKind, left: u8, octets: &[u8], end: usize) -> Option<(u8, &[u8])>
+    requires { length octets.now ≤ end }
+    ensures read { IfSome result (λ x. field_past kind left end octets.now ≡ Ok (x.0, x.1.now)) }
+    ensures within { IfSome result (λ x. length x.1.now ≤ length octets.now) }
+{
+    past_field(kind, left, octets, end).ok()
+}
+
+/// Whether these are the arguments of a basic.ack, and nothing stands after them.
+#[inline(always)]
+fn are_of_ack(octets: &[u8], end: usize) -> Option<()>
+    requires { length octets.now ≤ end }
+    ensures { IfSome result (λ done. kind_read (call_at end octets.now (Some Kind.BasicAck)) ≡ Ok Kind.BasicAck) }
+{
+    let (left, octets) = past(FieldKind::LongLong, 0, octets, end)?;
+    let (_, octets) = past(FieldKind::Bit, left, octets, end)?;
+    read_end(octets, end).ok()
+}
+
+/// The same of a basic.publish.
+#[inline(always)]
+fn are_of_publish(octets: &[u8], end: usize) -> Option<()>
+    requires { length octets.now ≤ end }
+    ensures { IfSome result (λ done. kind_read (call_at end octets.now (Some Kind.BasicPublish)) ≡ Ok Kind.BasicPublish) }
+{
+    let (left, octets) = past(FieldKind::Short, 0, octets, end)?;
+    let (left, octets) = past(FieldKind::ShortStr, left, octets, end)?;
+    let (left, octets) = past(FieldKind::ShortStr, left, octets, end)?;
+    let (left, octets) = past(FieldKind::Bit, left, octets, end)?;
+    let (_, octets) = past(FieldKind::Bit, left, octets, end)?;
+    read_end(octets, end).ok()
+}
+
+/// The same of a basic.deliver.
+#[inline(always)]
+fn are_of_deliver(octets: &[u8], end: usize) -> Option<()>
+    requires { length octets.now ≤ end }
+    ensures { IfSome result (λ done. kind_read (call_at end octets.now (Some Kind.BasicDeliver)) ≡ Ok Kind.BasicDeliver) }
+{
+    let (left, octets) = past(FieldKind::ShortStr, 0, octets, end)?;
+    let (left, octets) = past(FieldKind::LongLong, left, octets, end)?;
+    let (left, octets) = past(FieldKind::Bit, left, octets, end)?;
+    let (left, octets) = past(FieldKind::ShortStr, left, octets, end)?;
+    let (_, octets) = past(FieldKind::ShortStr, left, octets, end)?;
+    read_end(octets, end).ok()
+}
+
+/// The kind of the method that a payload encodes, if it is one of those that most methods are of.
+///
+/// Their fields are looked at by calls for each, where [`check_method`] reads a row field by field: an ack takes half
+/// as many instructions so.
+#[inline(never)]
+pub(crate) fn common_kind(payload: &[u8]) -> Option<Kind>
+    ensures { IfSome result (λ kind. kind_read (method_at payload.now) ≡ Ok kind) }
+{
+    let end = payload.len();
+    let (class, after) = read_short(payload, end).ok()?;
+    let (id, after) = read_short(after, end).ok()?;
+    if class != 60 {
+        return None;
+    }
+    match id {
+        40 => {
+            are_of_publish(after, end)?;
+            Some(Kind::BasicPublish)
+        }
+        60 => {
+            are_of_deliver(after, end)?;
+            Some(Kind::BasicDeliver)
+        }
+        80 => {
+            are_of_ack(after, end)?;
+            Some(Kind::BasicAck)
+        }
+        _ => None,
+    }
 }
 
 /// Checks that a payload encodes a method, and of which kind.

@@ -4,7 +4,7 @@ ghost use Rattle.amqp_method.specs.Checking.{kind_read, AreBelow256};
 ghost use Rattle.amqp_method.specs.Reading.{method_at};
 
 use crate::args_ref::ArgsRef;
-use crate::checker::check_method;
+use crate::checker::{check_method, common_kind};
 use crate::faults::{MethodFault, OutOfMemory};
 use crate::fields::Arg;
 use crate::kinds::{Kind, schema, sends};
@@ -45,6 +45,9 @@ impl<'a> MethodRef<'a> {
         ensures only { (c : Call) → EncodesMethod c payload.now → IfOk result (λ m. lent_call m ≡ c) }
         ensures fault { IfErr result (λ e. FirstFaultOfMethod payload.now e) }
     {
+        if let Some(kind) = common_kind(payload) {
+            return Ok(MethodRef { kind, payload });
+        }
         let kind = check_method(payload)?;
         Ok(MethodRef { kind, payload })
     }
