@@ -11,6 +11,7 @@ pub mod HeaderFaults
 pub mod HeaderLemmas
 pub mod HeaderRefs
 pub mod KindLemmas
+pub mod KnownFields
 pub mod LengthLemmas
 pub mod MethodFaults
 pub mod MethodLemmas

@@ -17,6 +17,7 @@ pub mod MethodRefView
 pub mod HeaderRefView
 pub mod HeaderRefs
 pub mod Owning
+pub mod KnownFields
 pub mod Properties
 pub mod HeaderReading
 pub mod HeaderChecking

@@ -31,7 +31,8 @@ impl<'a> ArgsRef<'a> {
     pub(crate) fn new(fields: &'static [Field], octets: &'a [u8], end: usize) -> ArgsRef<'a>
         requires within { length octets.now ≤ end }
         requires reads { IsOk (args_at (map field_view fields.now) no_bits end octets.now) }
-        ensures { args_left result ≡ values_read (args_at (map field_view fields.now) no_bits end octets.now) }
+        ensures args { args_left result ≡ values_read (args_at (map field_view fields.now) no_bits end octets.now) }
+        ensures fields { result.fields.now ≡ fields.now }
     {
         ArgsRef {
             fields,

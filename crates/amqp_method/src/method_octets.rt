@@ -32,8 +32,7 @@ fn exact_method(alloc: Global, octets: &[u8]) -> Result<Method, MethodFault>
     ensures faulty { (e : MethodFault) → method_at octets.now ≡ Err e → result ≡ Err e }
 {
     let lent = MethodRef::new(octets)?;
-    let mut args = Vec::new(alloc);
-    lent.own_args(alloc, &mut args)?;
+    let args = lent.own_args(alloc)?;
     Ok(Method::new(lent.kind(), args))
 }
 

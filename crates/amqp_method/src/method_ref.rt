@@ -26,15 +26,16 @@ pub struct MethodRef<'a> {
 }
 
 impl<'a> MethodRef<'a> {
-    ghost use Rattle.std.specs.Prelude.{◌≡◌, IfOk, IfErr, OnOk, Ok, Err, List};
+    ghost use Rattle.std.specs.Prelude.{◌≡◌, IfOk, IfErr, Ok, Err, List, map};
     ghost use Rattle.amqp_method.specs.Arguments.{Call, call, Fits};
     ghost use Rattle.amqp_method.specs.Encoding.{EncodesMethod};
     ghost use Rattle.amqp_method.specs.FirstFault.{FirstFaultOfMethod};
-    ghost use Rattle.amqp_method.specs.Kinds.{class_of, has_content as content_follows, sends as is_sent};
+    ghost use Rattle.amqp_method.specs.Kinds.{class_of, fields_of, has_content as content_follows, sends as is_sent};
     ghost use Rattle.amqp_method.specs.MethodRefs.{args_left};
     ghost use Rattle.amqp_method.specs.MethodRefView.{lent_call, lent_payload};
     ghost use Rattle.amqp_method.specs.MethodView.{method_view};
     ghost use Rattle.amqp_method.specs.Reading.{Equals, method_at};
+    ghost use Rattle.amqp_method.specs.Rows.{field_view};
     ghost use Rattle.amqp_method.specs.Views.{args_view};
 
     /// The method that a payload encodes. The faults are those of [`read_method`](crate::read_method), and no memory is
@@ -93,19 +94,46 @@ impl<'a> MethodRef<'a> {
         ensures args { args_left result ≡ (lent_call self.entry).args }
         ensures fit { Fits (lent_call self.entry) }
     {
+        self.lent_args()
+    }
+
+    /// The same, and for which fields they are.
+    #[inline(always)]
+    fn lent_args(self) -> ArgsRef<'a>
+        ensures args { args_left result ≡ (lent_call self.entry).args }
+        ensures fit { Fits (lent_call self.entry) }
+        ensures fields { map field_view result.fields.now ≡ fields_of self.entry.kind }
+    {
         let (_, octets) = self.payload.split_at(IDS_LENGTH);
         ArgsRef::new(schema(self.kind), octets, self.payload.len())
     }
 
-    /// Builds the arguments, in the place of those that were there.
+    /// Builds the arguments.
+    ///
+    /// Most methods are of three kinds, whose fields are known: their arguments take half as many instructions so as by
+    /// their rows.
     #[inline(never)]
-    pub(crate) fn own_args(self, alloc: Global, args: &mut Vec<Arg>) -> Result<(), OutOfMemory>
-        ensures args { OnOk result (args_view args.new.items ≡ (lent_call self.entry).args) }
+    pub(crate) fn own_args(self, alloc: Global) -> Result<Vec<Arg>, OutOfMemory>
+        ensures args { IfOk result (λ args. args_view args.items ≡ (lent_call self.entry).args) }
         ensures fit { Fits (lent_call self.entry) }
     {
-        let lent = self.args();
-        *args = Vec::with_capacity(alloc, row_for(self.kind).arguments)?;
-        lent.own_into(args)
+        let lent = self.lent_args();
+        match self.kind {
+            Kind::BasicAck => lent.own_ack(alloc),
+            Kind::BasicPublish => lent.own_publish(alloc),
+            Kind::BasicDeliver => lent.own_deliver(alloc),
+            _ => self.own_by_row(alloc),
+        }
+    }
+
+    /// Builds the arguments field by field of the method's row.
+    #[inline(never)]
+    fn own_by_row(self, alloc: Global) -> Result<Vec<Arg>, OutOfMemory>
+        ensures { IfOk result (λ args. args_view args.items ≡ (lent_call self.entry).args) }
+    {
+        let mut args = Vec::with_capacity(alloc, row_for(self.kind).arguments)?;
+        self.args().own_into(&mut args)?;
+        Ok(args)
     }
 
     /// The same method with arguments of its own. Nothing is checked again, so it fails for memory alone.
@@ -113,8 +141,7 @@ impl<'a> MethodRef<'a> {
     pub fn to_owned(self, alloc: Global) -> Result<Method, OutOfMemory>
         ensures { IfOk result (λ m. method_view m ≡ lent_call self.entry) }
     {
-        let mut args = Vec::new(alloc);
-        self.own_args(alloc, &mut args)?;
+        let args = self.own_args(alloc)?;
         Ok(Method::new(self.kind, args))
     }
 }
