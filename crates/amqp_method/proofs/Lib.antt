@@ -1,6 +1,7 @@
 pub mod ArgsLemmas
 pub mod CheckLemmas
 pub mod CommonKinds
+pub mod CommonProperties
 pub mod CompleteLemmas
 pub mod FieldFaults
 pub mod FieldLemmas
