@@ -34,7 +34,7 @@ known_so_far reading said progress =
     ap (λ (known : Streaming). gathered_as (progress_with reading said known)) (as_known progress)
 
 -- the content after a frame
-told_content : (role : Role) (reading : Reading) (said : Told) (life : Life)
+pub told_content : (role : Role) (reading : Reading) (said : Told) (life : Life)
     → (told_in role reading said life).content ≡ content_with reading said life.content
 told_content Client (Calls method) told.Method life = refl
 told_content Server (Calls method) told.Method life = refl

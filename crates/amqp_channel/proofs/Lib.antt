@@ -6,6 +6,7 @@ pub mod PutLemmas
 pub mod FreeLemmas
 pub mod LentLemmas
 pub mod OneWayLemmas
+pub mod PassLemmas
 pub mod UnderWayLemmas
 pub mod SumLemmas
 pub mod HeaderLemmas

@@ -176,7 +176,7 @@ pub passes_fits : (site : Site) (channel : Channel) (reading : Reading) (said : 
 passes_fits site channel reading said passes =
     standing_fits (role_of site.side) reading said channel channel (sym passes.stands) passes.rules.fits
 
-goes : (role : Role) (reading : Reading) (said : Told) (channel : Channel) → IsOfMessage said
+pub goes : (role : Role) (reading : Reading) (said : Told) (channel : Channel) → IsOfMessage said
     → told_on role reading said channel ≡ goes_on role reading said channel
 goes role reading told.Method channel of = refl
 goes role reading told.Begun channel of = refl

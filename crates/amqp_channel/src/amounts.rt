@@ -1,5 +1,5 @@
 //! How many octets are kept of the contents under way.
-ghost use Rattle.std.specs.Prelude.{◌≡◌, ◌+◌, ◌*◌, ◌^◌, ◌≤◌, length};
+ghost use Rattle.std.specs.Prelude.{◌≡◌, ◌+◌, ◌*◌, ◌^◌, ◌<◌, ◌≤◌, length};
 ghost use Rattle.amqp_model.specs.End.Amounts.{body_octets_on, header_octets, header_octets_on, IsSum};
 ghost use Rattle.amqp_model.specs.Wire.Gathering.{kept};
 ghost use Rattle.amqp_channel.specs.Channel.ChannelView.{gathered_view};
@@ -78,6 +78,7 @@ impl Life {
     fn amount(&self) -> Amount
         ensures header { result.header ≡ header_octets (gathering_view self.now.content) }
         ensures body { result.body ≡ length (kept (gathering_view self.now.content)) }
+        ensures small { result.body < 2 ^ 63 }
     {
         Amount {
             header: self.header as u64,
@@ -92,6 +93,7 @@ impl Channel {
     pub(crate) fn amount(&self) -> Amount
         ensures header { result.header ≡ header_octets_on (gathered_view self.now) }
         ensures body { result.body ≡ body_octets_on (gathered_view self.now) }
+        ensures small { result.body < 2 ^ 63 }
     {
         match self {
             Channel::Free => Amount::none(),

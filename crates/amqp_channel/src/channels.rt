@@ -2,7 +2,7 @@
 //!
 //! A channel is kept from its open to its end, and none that is Free is kept: memory is bounded by the channels in use,
 //! whatever their numbers are.
-ghost use Rattle.std.specs.Prelude.{◌≡◌, ◌≢◌, ◌+◌, ◌<◌, true, false, not, ℕ, suc, IfNone, IfOk, IfSome, IsOk, OnErr, OnOk, MatchOption, None};
+ghost use Rattle.std.specs.Prelude.{◌≡◌, ◌≢◌, ◌+◌, ◌<◌, ◌≤◌, true, false, not, ℕ, suc, IfNone, IfOk, IfSome, IsOk, OnErr, OnOk, MatchOption, None};
 ghost use Rattle.amqp_model.specs.End.Amounts.{IsSum};
 ghost use Rattle.amqp_model.specs.End.Asks.{is_free, first_free};
 ghost use Rattle.amqp_model.specs.End.Channels.{Free};
@@ -13,11 +13,10 @@ ghost use Rattle.amqp_channel.specs.Channels.Used.{body_octets_at, header_octets
 ghost use Rattle.amqp_channel.specs.Channels.Passed.{IsPassed, PassedAreTaken};
 ghost use Rattle.indexmap.specs.IndexMap.{index_map_len};
 ghost use Rattle.std.specs.HashMap.{IsUnchanged};
-ghost use Rattle.amqp_channel.specs.ReadingView.{reading_view};
-ghost use Rattle.amqp_channel.specs.Contents.ContentView.{content_there};
-ghost use Rattle.amqp_channel.specs.Roles.{role_of};
-ghost use Rattle.amqp_channel.specs.Verdict.Passing.{Passes};
-ghost use Rattle.amqp_channel.specs.Verdict.VerdictView.{goes_on, left_by, whole_now, whole_of, Drops, Fits, IsPart, Rules};
+ghost use Rattle.amqp_method.specs.MethodRefView.{lent_call};
+ghost use Rattle.amqp_model.specs.Wire.Readings.{BodyOf, Calls};
+ghost use Rattle.amqp_channel.specs.ReadingView.{header_said, reading_view};
+ghost use Rattle.amqp_channel.specs.Verdict.VerdictView.{left_by, Drops, Fits, IsPart, Rules};
 
 mod puts;
 
@@ -29,7 +28,7 @@ use crate::side::Side;
 use crate::site::Site;
 use crate::standing::leaves_channel;
 use crate::verdict::{Told, Verdict};
-use amqp_method::{Content, OutOfMemory};
+use amqp_method::{Content, HeaderRef, MethodRef, OutOfMemory};
 use indexmap::IndexMap;
 use std::alloc::Global;
 
@@ -281,44 +280,6 @@ impl Channels {
         }
     }
 
-    /// Does what a frame does that passes, of the channel at this place, where contents are gathered. What is answered is
-    /// the content that the frame makes whole. Out of memory, the channel stays as it was.
-    #[inline(always)]
-    fn gather_at(
-        &mut self,
-        place: usize,
-        alloc: Global,
-        site: Site,
-        reading: Reading<'_>,
-        told: Told,
-    ) -> Result<Option<Box<Content>>, OutOfMemory>
-        requires above { 0 < site.number }
-        requires passes { Passes site (channels_view self.old site.number) (reading_view reading) told }
-        requires gathers { NoneLent self.old }
-        requires within { place < index_map_len self.old.used }
-        requires holds { HoldsAt self.old.used place site.number }
-        requires written { WritesAt self.old.used place site.number }
-        requires kept { KeptAt self.old.used place site.number }
-        requires put { PutAt self.old.used place site.number }
-        requires others { KeepsOthersAt self.old.used place site.number }
-        requires entries { KeepsEntriesAt self.old.used place site.number }
-        requires taken { is_free (channels_view self.old site.number) ≡ false }
-        ensures left { OnOk result (channels_view self.new site.number ≡ goes_on (role_of site.side)
-            (reading_view reading.entry) told (channels_view self.old site.number)) }
-        ensures content { IfOk result (λ content. content_there content
-            ≡ whole_of told (whole_now (channels_view self.old site.number) (reading_view reading.entry))) }
-        ensures err { OnErr result (channels_view self.new site.number ≡ channels_view self.old site.number) }
-        ensures others { OnlyAt site.number (channels_view self.old) (channels_view self.new) }
-        ensures gathers { NoneLent self.new }
-    {
-        let channel = &mut self.used[place];
-        let before = channel.amount();
-        let answer = channel.apply_open(alloc, site.side, reading, told);
-        let left = channel.amount();
-        self.amounts = self.amounts.after(before, left);
-        answer
-    }
-
     /// Judges a frame and leaves its channel, where that is done at once and contents are gathered: where the frame owes
     /// no reply, and changes at most the content under way. The answer is what it tells, and the content that it makes
     /// whole. Otherwise nothing is done, and the rules are asked by [`Channels::judge`]. Out of memory, the channel stays
@@ -351,18 +312,191 @@ impl Channels {
         let Some(place) = self.place_of(site.number) else {
             return Ok(None);
         };
-        let Some(told) = self.used[place].passes_gathered(site, reading) else {
+        match reading {
+            Reading::Method(method) => self.pass_method_at(place, alloc, site, method),
+            Reading::Header(header) => self.pass_header_at(place, alloc, site, header),
+            Reading::Body(octets) => self.pass_body_at(place, site, octets),
+            Reading::UnknownMethod => Ok(None),
+            Reading::MalformedMethod => Ok(None),
+            Reading::MalformedHeader => Ok(None),
+            Reading::Heartbeat(_) => Ok(None),
+        }
+    }
+
+    /// The same for a method, on the channel at this place. What is kept of contents has no octets more then.
+    #[inline(always)]
+    fn pass_method_at(
+        &mut self,
+        place: usize,
+        alloc: Global,
+        site: Site,
+        method: MethodRef<'_>,
+    ) -> Result<Option<Passed>, OutOfMemory>
+        requires above { 0 < site.number }
+        requires most { site.number ≤ site.channel_max }
+        requires gathers { NoneLent self.old }
+        requires within { place < index_map_len self.old.used }
+        requires holds { HoldsAt self.old.used place site.number }
+        requires written { WritesAt self.old.used place site.number }
+        requires kept { KeptAt self.old.used place site.number }
+        requires put { PutAt self.old.used place site.number }
+        requires others { KeepsOthersAt self.old.used place site.number }
+        requires entries { KeepsEntriesAt self.old.used place site.number }
+        ensures passes { IfOk result (λ passed. IfSome passed (λ it.
+            PassesGathered site (Calls (lent_call method.entry)) self.old it.told it.content self.new)) }
+        ensures stays { IfOk result (λ passed. passed ≡ None → self.new ≡ self.old) }
+        ensures err { OnErr result (channels_view self.new site.number ≡ channels_view self.old site.number) }
+        ensures others { OnErr result (OnlyAt site.number (channels_view self.old) (channels_view self.new)) }
+        ensures gathers { NoneLent self.new }
+    {
+        let Some(told) = self.used[place].passes_method(site, method) else {
             return Ok(None);
         };
-        self.last = place;
-        if let Told::Method = told {
-            return Ok(Some(Passed {
-                told,
-                content: None,
-            }));
+        match told {
+            Told::Method => {
+                self.last = place;
+                Ok(Some(Passed {
+                    told,
+                    content: None,
+                }))
+            }
+            Told::Begun => {
+                let begun = self.used[place].begin_one_way(alloc, method);
+                self.last = place;
+                match begun {
+                    Ok(()) => Ok(Some(Passed {
+                        told,
+                        content: None,
+                    })),
+                    Err(fault) => Err(fault),
+                }
+            }
+            _ => Ok(None),
         }
-        let content = self.gather_at(place, alloc, site, reading, told)?;
-        Ok(Some(Passed { told, content }))
+    }
+
+    /// The same for a header.
+    #[inline(always)]
+    fn pass_header_at(
+        &mut self,
+        place: usize,
+        alloc: Global,
+        site: Site,
+        header: HeaderRef<'_>,
+    ) -> Result<Option<Passed>, OutOfMemory>
+        requires above { 0 < site.number }
+        requires most { site.number ≤ site.channel_max }
+        requires gathers { NoneLent self.old }
+        requires within { place < index_map_len self.old.used }
+        requires holds { HoldsAt self.old.used place site.number }
+        requires written { WritesAt self.old.used place site.number }
+        requires kept { KeptAt self.old.used place site.number }
+        requires put { PutAt self.old.used place site.number }
+        requires others { KeepsOthersAt self.old.used place site.number }
+        requires entries { KeepsEntriesAt self.old.used place site.number }
+        ensures passes { IfOk result (λ passed. IfSome passed (λ it.
+            PassesGathered site (header_said header.entry) self.old it.told it.content self.new)) }
+        ensures stays { IfOk result (λ passed. passed ≡ None → self.new ≡ self.old) }
+        ensures err { OnErr result (channels_view self.new site.number ≡ channels_view self.old site.number) }
+        ensures others { OnErr result (OnlyAt site.number (channels_view self.old) (channels_view self.new)) }
+        ensures gathers { NoneLent self.new }
+        ensures drops { is_closing_at (channels_view self.old site.number) ≡ true → IsOk result }
+    {
+        let Some(told) = self.used[place].passes_gathered_header(site, header) else {
+            return Ok(None);
+        };
+        match told {
+            Told::Completed => {
+                let whole = self.used[place].finish_header_one_way(alloc, header);
+                self.last = place;
+                match whole {
+                    Ok(content) => Ok(Some(Passed {
+                        told,
+                        content: Some(content),
+                    })),
+                    Err(fault) => Err(fault),
+                }
+            }
+            Told::Headed => {
+                let channel = &mut self.used[place];
+                let headed = channel.head_one_way(alloc, site.side, header);
+                let left = channel.amount();
+                self.amounts = self.amounts.after(Amount::none(), left);
+                self.last = place;
+                match headed {
+                    Ok(()) => Ok(Some(Passed {
+                        told,
+                        content: None,
+                    })),
+                    Err(fault) => Err(fault),
+                }
+            }
+            _ => Ok(None),
+        }
+    }
+
+    /// The same for a part of a body.
+    #[inline(always)]
+    fn pass_body_at(
+        &mut self,
+        place: usize,
+        site: Site,
+        octets: &[u8],
+    ) -> Result<Option<Passed>, OutOfMemory>
+        requires above { 0 < site.number }
+        requires most { site.number ≤ site.channel_max }
+        requires gathers { NoneLent self.old }
+        requires within { place < index_map_len self.old.used }
+        requires holds { HoldsAt self.old.used place site.number }
+        requires written { WritesAt self.old.used place site.number }
+        requires kept { KeptAt self.old.used place site.number }
+        requires put { PutAt self.old.used place site.number }
+        requires others { KeepsOthersAt self.old.used place site.number }
+        requires entries { KeepsEntriesAt self.old.used place site.number }
+        ensures passes { IfOk result (λ passed. IfSome passed (λ it.
+            PassesGathered site (BodyOf octets.now) self.old it.told it.content self.new)) }
+        ensures stays { IfOk result (λ passed. passed ≡ None → self.new ≡ self.old) }
+        ensures err { OnErr result (channels_view self.new site.number ≡ channels_view self.old site.number) }
+        ensures others { OnErr result (OnlyAt site.number (channels_view self.old) (channels_view self.new)) }
+        ensures gathers { NoneLent self.new }
+        ensures drops { is_closing_at (channels_view self.old site.number) ≡ true → IsOk result }
+    {
+        let Some(told) = self.used[place].passes_gathered_body(site, octets) else {
+            return Ok(None);
+        };
+        match told {
+            Told::Completed => {
+                let channel = &mut self.used[place];
+                let was = channel.amount();
+                let whole = channel.finish_one_way(octets);
+                let left = channel.amount();
+                self.amounts = self.amounts.after(was, left);
+                self.last = place;
+                match whole {
+                    Ok(content) => Ok(Some(Passed {
+                        told,
+                        content: Some(content),
+                    })),
+                    Err(fault) => Err(fault),
+                }
+            }
+            Told::Continued => {
+                let filled = &mut self.used[place];
+                let before = filled.amount();
+                let more = filled.fill_one_way(site.side, octets);
+                let now = filled.amount();
+                self.amounts = self.amounts.after(before, now);
+                self.last = place;
+                match more {
+                    Ok(()) => Ok(Some(Passed {
+                        told,
+                        content: None,
+                    })),
+                    Err(fault) => Err(fault),
+                }
+            }
+            _ => Ok(None),
+        }
     }
 
     /// The same on a number that is not in use, where contents are gathered or lent. Few frames come there, so it stands

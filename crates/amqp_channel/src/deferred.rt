@@ -29,6 +29,7 @@ pub struct Deferred {
 }
 
 /// Whether a header is kept as its octets.
+#[inline(always)]
 pub(crate) fn is_deferred(header: HeaderRef<'_>) -> bool {
     KEPT_READ < header.payload().len() && header.headers().is_some()
 }

@@ -5,7 +5,7 @@ ghost use Rattle.amqp_model.specs.End.FrameVerdict.{is_gathering};
 ghost use Rattle.amqp_model.specs.Wire.Gathering.{Nothing, HeaderDue};
 ghost use Rattle.amqp_model.specs.Wire.Readings.{BodyOf};
 ghost use Rattle.amqp_channel.specs.Contents.ContentView.{content_view};
-ghost use Rattle.amqp_channel.specs.Contents.GatheringView.{filling_of, IsBodyDue, IsKeptIn, gathering_view};
+ghost use Rattle.amqp_channel.specs.Contents.GatheringView.{filling_of, IsBodyDue, IsKeptIn, IsRead, gathering_view};
 ghost use Rattle.amqp_channel.specs.ReadingView.{header_said};
 ghost use Rattle.amqp_channel.specs.declared.gathering.Filling.TheVariants.{Short};
 ghost use Rattle.amqp_channel.specs.Verdict.VerdictView.{continued_with, headed_with, whole_at, whole_with, IsHeaderDue, IsWhole};
@@ -14,6 +14,7 @@ use crate::deferred::{Deferred, is_deferred};
 use amqp_method::{Content, HeaderRef, OutOfMemory};
 use std::alloc::Global;
 use std::mem;
+use std::mem::forget;
 
 /// What is kept of a content that isn't whole.
 #[derive(Drop)]
@@ -106,6 +107,29 @@ impl Gathering {
         Ok(())
     }
 
+    /// The content whose header was read and that a part of its body makes whole. Nothing is kept of it any more. Out of
+    /// memory, all is as it was.
+    #[inline(always)]
+    pub(crate) fn finish_due(&mut self, octets: &[u8]) -> Result<Box<Content>, OutOfMemory>
+        requires read { IsRead self.old }
+        requires whole { IsWhole (whole_with (gathering_view self.old) octets.now) }
+        ensures whole { IfOk result (λ content. whole_with (gathering_view self.old) octets.now
+            ≡ Some (content_view content.value)) }
+        ensures left { OnOk result (gathering_view self.new ≡ Nothing) }
+        ensures err { OnErr result (gathering_view self.new ≡ gathering_view self.old) }
+    {
+        match mem::replace(self, Gathering::Nothing) {
+            Gathering::BodyDue(mut content) => {
+                if let Err(fault) = append_last(&mut content.body, octets) {
+                    forget(mem::replace(self, Gathering::BodyDue(content)));
+                    return Err(fault);
+                }
+                Ok(content)
+            }
+            Gathering::Nothing | Gathering::HeaderDue(_) | Gathering::Deferred(_) => unreachable!(),
+        }
+    }
+
     /// The content that a part of its body makes whole. Nothing is kept of it any more. Out of memory, all is as it was.
     #[inline(always)]
     pub(crate) fn finish(&mut self, octets: &[u8]) -> Result<Box<Content>, OutOfMemory>
@@ -189,7 +213,7 @@ impl Gathering {
             *self = Gathering::HeaderDue(content);
             return Err(fault);
         }
-        *self = Gathering::BodyDue(content);
+        forget(mem::replace(self, Gathering::BodyDue(content)));
         Ok(())
     }
 

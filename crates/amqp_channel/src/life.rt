@@ -7,7 +7,7 @@ ghost use Rattle.amqp_model.specs.End.Amounts.{header_octets};
 ghost use Rattle.amqp_model.specs.End.Channels as model;
 ghost use Rattle.amqp_model.specs.End.Channels.{Open, new_life};
 ghost use Rattle.amqp_model.specs.End.FrameVerdict.{on_message};
-ghost use Rattle.amqp_model.specs.Wire.Gathering.{BodyDue, HeaderDue};
+ghost use Rattle.amqp_model.specs.Wire.Gathering.{BodyDue, HeaderDue, Nothing};
 ghost use Rattle.amqp_model.specs.Wire.Methods as methods;
 ghost use Rattle.amqp_model.specs.Wire.Methods.{carries_content as content_follows, is_reply};
 ghost use Rattle.amqp_method.specs.Requests.{is_one_way};
@@ -16,11 +16,11 @@ ghost use Rattle.amqp_channel.specs.declared.verdict.Verdict.TheVariants.{Procee
 ghost use Rattle.amqp_model.specs.Wire.Readings as readings;
 ghost use Rattle.amqp_model.specs.Wire.Readings.{Calls, BodyOf, HeaderOf, kind_of};
 ghost use Rattle.amqp_channel.specs.Contents.ContentView.{content_there, content_view};
-ghost use Rattle.amqp_channel.specs.Contents.GatheringView.{gathering_view};
+ghost use Rattle.amqp_channel.specs.Contents.GatheringView.{gathering_view, IsRead};
 ghost use Rattle.amqp_channel.specs.ReadingView.{header_said, reading_view};
 ghost use Rattle.amqp_channel.specs.Roles.{role_of};
 ghost use Rattle.amqp_channel.specs.Verdict.Passing.{IsOfContent, Passes};
-ghost use Rattle.amqp_channel.specs.Verdict.VerdictView.{asked_with, replies_in, told_in, verdict_view, whole_at, whole_of, whole_with, FitsTold, IsDiscarded, IsFlow, IsHeaderDue, IsWhole, MessageRules, Rules, RulesByState, TellsMessage};
+ghost use Rattle.amqp_channel.specs.Verdict.VerdictView.{asked_with, replies_in, told_in, verdict_view, whole_at, whole_of, whole_with, with_content, FitsTold, IsDiscarded, IsFlow, IsHeaderDue, IsWhole, MessageRules, Rules, RulesByState, TellsMessage};
 
 use crate::codes::CloseCode;
 use crate::gathering::{Filling, Gathering, fill};
@@ -33,6 +33,7 @@ use crate::words::lent_bit_at;
 use amqp_method::{Carrier, Content, HeaderRef, Kind, MethodRef, OutOfMemory};
 use amqp_model::bounds::headers_have_one_length;
 use std::alloc::Global;
+use std::mem::{forget, replace};
 
 /// How many requests a server keeps on a channel.
 pub(crate) const MOST_REQUESTS: usize = 1024;
@@ -195,6 +196,7 @@ impl Life {
         ensures tells { IfSome result (λ told. TellsMessage (lent_call method.entry) (Proceeds told None)) }
         ensures one_way { IfSome result (λ told. is_one_way (not (is_client (role_of site.side)))
             (lent_call method.entry).kind ≡ true) }
+        ensures idle { IfSome result (λ told. IsIdle self.now) }
     {
         if self.content.is_under_way() || !method.kind().is_one_way(!site.side.is_client()) {
             return None;
@@ -229,7 +231,8 @@ impl Life {
     pub(crate) fn passes_body(&self, site: Site, octets: &[u8]) -> Option<Told>
         requires above { 0 < site.number }
         requires within { site.number ≤ site.channel_max }
-        ensures { IfSome result (Passes site (Open (life_view self.now)) (BodyOf octets.now)) }
+        ensures passes { IfSome result (Passes site (Open (life_view self.now)) (BodyOf octets.now)) }
+        ensures read { IfSome result (λ told. IsRead self.now.content) }
     {
         match &self.content {
             Gathering::BodyDue(content) => passes_content(
@@ -389,10 +392,61 @@ impl Life {
         Ok(())
     }
 
+    /// A method that has nothing to do with requests begins a content, where none is under way. Out of memory, none is
+    /// begun.
+    #[inline(always)]
+    pub(crate) fn begin_one_way(
+        &mut self,
+        alloc: Global,
+        method: MethodRef<'_>,
+    ) -> Result<(), OutOfMemory>
+        requires idle { IsIdle self.old }
+        requires follows { content_follows (lent_call method) ≡ true }
+        ensures ok { OnOk result (life_view self.new ≡ with_content (life_view self.old)
+            (HeaderDue (lent_call method.entry))) }
+        ensures err { OnErr result (life_view self.new ≡ life_view self.old) }
+    {
+        let content = Content::begun(alloc, Carrier::new(method.to_owned(alloc)?))?;
+        forget(replace(&mut self.content, Gathering::HeaderDue(content)));
+        Ok(())
+    }
+
+    /// The header of a content without a body, which answers no request.
+    #[inline(always)]
+    pub(crate) fn finish_header_one_way(
+        &mut self,
+        alloc: Global,
+        header: HeaderRef<'_>,
+    ) -> Result<Box<Content>, OutOfMemory>
+        requires { IsWhole (whole_at (life_view self.old).content (header_said header)) }
+        ensures whole { IfOk result (λ content. whole_at (life_view self.old).content (header_said header.entry)
+            ≡ Some (content_view content.value)) }
+        ensures ok { OnOk result (life_view self.new ≡ with_content (life_view self.old) Nothing) }
+        ensures err { OnErr result (life_view self.new ≡ life_view self.old) }
+    {
+        let content = self.content.finish_header(alloc, header)?;
+        Ok(content)
+    }
+
+    /// The last part of the body of a content that answers no request.
+    #[inline(always)]
+    pub(crate) fn finish_one_way(&mut self, octets: &[u8]) -> Result<Box<Content>, OutOfMemory>
+        requires read { IsRead self.old.content }
+        requires whole { IsWhole (whole_with (life_view self.old).content octets.now) }
+        ensures whole { IfOk result (λ content. whole_with (life_view self.old).content octets.now
+            ≡ Some (content_view content.value)) }
+        ensures ok { OnOk result (life_view self.new ≡ with_content (life_view self.old) Nothing) }
+        ensures err { OnErr result (life_view self.new ≡ life_view self.old) }
+    {
+        let content = self.content.finish_due(octets)?;
+        self.header = 0;
+        Ok(content)
+    }
+
     /// A part of a body, after which more is due.
     #[inline(always)]
     #[tactic(auto, using(crate::proofs::HeaderLemmas::header_continued))]
-    fn fill(&mut self, side: Side, octets: &[u8]) -> Result<(), OutOfMemory>
+    pub(crate) fn fill(&mut self, side: Side, octets: &[u8]) -> Result<(), OutOfMemory>
         ensures ok { OnOk result (life_view self.new ≡ told_in (role_of side) (BodyOf octets.now) Told.Continued
             (life_view self.old)) }
         ensures err { OnErr result (life_view self.new ≡ life_view self.old) }
@@ -402,7 +456,7 @@ impl Life {
 
     /// A header, after which the body is due.
     #[inline(always)]
-    fn keep_header(
+    pub(crate) fn keep_header(
         &mut self,
         alloc: Global,
         side: Side,

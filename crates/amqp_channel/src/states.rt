@@ -1,5 +1,5 @@
 //! What a channel answers when it is asked: its state, how much is kept of it, and what is due on it.
-ghost use Rattle.std.specs.Prelude.{◌≡◌, length};
+ghost use Rattle.std.specs.Prelude.{◌≡◌, ◌<◌, ◌^◌, length};
 ghost use Rattle.amqp_model.specs.End.Answers.{due_by, kept_by};
 ghost use Rattle.amqp_model.specs.End.Channels.{state_of};
 ghost use Rattle.amqp_model.specs.Wire.Gathering.{kept};
@@ -26,7 +26,8 @@ pub enum ChannelState {
 impl Gathering {
     /// How many octets are kept of a body.
     pub(crate) fn octets(&self) -> usize
-        ensures { result ≡ length (kept (gathering_view self.now)) }
+        ensures octets { result ≡ length (kept (gathering_view self.now)) }
+        ensures small { result < 2 ^ 63 }
     {
         match self {
             Gathering::Nothing => 0,

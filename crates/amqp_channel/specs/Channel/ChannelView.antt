@@ -4,7 +4,8 @@ use Rattle.std.specs.Prelude.{◌≡◌, Bool, true, false}
 use Rattle.amqp_model.specs.End.Channels as model
 use Rattle.amqp_model.specs.Lent.Streaming.{AwaitsBody, AwaitsHeader, gathered_as}
 use Rattle.amqp_model.specs.Wire.Gathering.{Gathering, Nothing}
-use Rattle.amqp_channel.specs.Channel.LifeView.{life_on, life_view}
+use Rattle.amqp_channel.specs.Channel.LifeView.{life_on, life_view, IsIdle}
+use Rattle.amqp_channel.specs.Contents.GatheringView.{IsRead}
 use Rattle.amqp_channel.specs.declared.channel.Channel.{Channel}
 use Rattle.amqp_channel.specs.declared.channel.Channel.TheVariants.{Free, Opening, Closing, Open, LentHeader, LentBody}
 
@@ -35,6 +36,16 @@ IsOpen (Open life) = Unit {0}
 IsOpen (LentHeader kind standing) = Unit {0}
 IsOpen (LentBody kind size came standing) = Unit {0}
 
+-- no content is under way on a channel that is Open
+abbrev pub IsIdleOpen : Channel → Type 0
+IsIdleOpen (Open life) = IsIdle life
+IsIdleOpen channel = ⊥
+
+-- a content is under way there that is gathered, and its header was read
+abbrev pub IsReadOpen : Channel → Type 0
+IsReadOpen (Open life) = IsRead life.content
+IsReadOpen channel = ⊥
+
 -- a content is under way whose octets are lent
 abbrev pub is_lent : Channel → Bool
 is_lent (LentHeader kind standing) = true
@@ -45,3 +56,14 @@ is_lent channel = false
 abbrev pub content_on : model.Channel → Gathering
 content_on (model.Open life) = life.content
 content_on channel = Nothing
+
+-- the channel with this content under way, if it is Open
+abbrev pub contained : Gathering → model.Channel → model.Channel
+contained content (model.Open life) =
+    model.Open (record { content = content; paused = life.paused; awaits = life.awaits; requests = life.requests })
+contained content channel = channel
+
+-- the channel is Open, and a content under way is gathered
+abbrev pub IsGathered : Channel → Type 0
+IsGathered (Open life) = Unit {0}
+IsGathered channel = ⊥

@@ -34,6 +34,11 @@ IsBodyDue (HeaderDue content) = ⊥
 IsBodyDue (BodyDue content) = Unit {0}
 IsBodyDue (Deferred deferred) = Unit {0}
 
+-- the same, and its header was read
+abbrev pub IsRead : Gathering → Type 0
+IsRead (BodyDue content) = Unit {0}
+IsRead gathering = ⊥
+
 -- all of this content is kept
 abbrev pub IsKeptIn : Gathering → Box Content Global → Type 0
 IsKeptIn Nothing content = ⊥

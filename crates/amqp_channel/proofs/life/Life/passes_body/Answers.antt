@@ -12,8 +12,8 @@ use Rattle.amqp_channel.specs.declared.verdict.Told.TheVariants as told
 use Rattle.amqp_channel.proofs.OneWayLemmas.{all_of_content}
 use Rattle.amqp_channel.proofs.life.Life.passes_body.Goals as goal
 
-pub returns-in-BodyDue : goal.returns-in-BodyDue
-returns-in-BodyDue c =
+pub returns-in-BodyDue-clause-passes : goal.returns-in-BodyDue-clause-passes
+returns-in-BodyDue-clause-passes c =
     let life = life_view c.args.self.now in
     let kept = c.in-BodyDue.content.value in
     let method = carrier_view kept.method in
