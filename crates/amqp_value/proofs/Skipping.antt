@@ -1,10 +1,10 @@
 -- Checking elements one after the other, as a loop does.
-use Rattle.std.proofs.Common.{◌≡◌, ℕ, ◌<◌, List, [], ◌∷◌, length, Some, None, Result, Ok, Err, refl, sym, ap, ◌∙◌, arith}
+use Rattle.std.proofs.Common.{◌≡◌, ℕ, ◌-◌, ◌<◌, List, [], ◌∷◌, length, drop, Some, None, Result, Ok, Err, refl, sym, ap, ◌∙◌, arith}
 use Rattle.amqp_value.specs.Checking.{skipped, measured, fault_in}
 use Rattle.amqp_value.specs.Reading.{◌>>=◌, Read, Reader, name_at, elements, named, under}
 use Rattle.amqp_value.specs.declared.fault.ValueFault.{ValueFault}
 use Rattle.amqp_value.proofs.Adding.{named-is}
-use Rattle.amqp_value.proofs.Elements.{Consumes, elements-next, elements-nil}
+use Rattle.amqp_value.proofs.Elements.{Consumes, IsEnd-last, elements-next, elements-nil}
 
 -- what was read, where the octets after it are known
 pub skipped_ok : {X : Type 0} (read : Read X) (after : List ℕ) → skipped read ≡ Ok after → (x : X) × (read ≡ Ok (x, after))
@@ -47,6 +47,12 @@ pub skipped-shorter : {X : Type 0} (read : Reader X) (end : ℕ) → Consumes re
 skipped-shorter read end h octets after is =
     let one = skipped_ok (read end octets) after is in
     h.consumes octets (one.0, after) one.1
+
+-- what follows what is read are the last of the octets
+pub skipped-last : {X : Type 0} (read : Reader X) (end : ℕ) → Consumes read end → (octets after : List ℕ) → skipped (read end octets) ≡ Ok after → after ≡ drop (length octets - length after) octets
+skipped-last read end h octets after is =
+    let one = skipped_ok (read end octets) after is in
+    IsEnd-last after octets (h.leaves octets (one.0, after) one.1)
 
 -- elements without a fault, and those with one, before what is made of them
 pub made_ok : {X Y : Type 0} (r : Result X ValueFault) (f : X → Y) (after : List ℕ) → fault_in r ≡ None → skipped (r >>= λ x. Ok (f x, after)) ≡ Ok after

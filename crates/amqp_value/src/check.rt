@@ -1,6 +1,6 @@
 //! Checking a table at the start of octets: the grammar, with the first fault, and no memory.
 
-ghost use Rattle.std.specs.Prelude.{◌≡◌, ◌≤◌, length};
+ghost use Rattle.std.specs.Prelude.{◌≡◌, ◌-◌, ◌≤◌, ℕ, length, drop, IfOk, IfSome, Ok};
 ghost use Rattle.amqp_value.specs.Checking.{Equals, skipped, measured, fault_in};
 ghost use Rattle.amqp_value.specs.ChecksTable.{ChecksTable};
 ghost use Rattle.amqp_value.specs.Reading.{elements, named, value_at, table_at};
@@ -70,15 +70,63 @@ pub fn check_items(body: &[u8], end: usize, levels: usize) -> Result<(), ValueFa
     Ok(())
 }
 
-/// Checks a name and the value under it. The answer is the octets after both.
+/// The octets after a value that lies whole in these, and is of fixed size or a long string.
 #[inline(always)]
+fn past_plain_value(octets: &[u8]) -> Option<&[u8]>
+    ensures { IfSome result (λ after. (levels end : ℕ) → skipped (value_at levels end octets.now) ≡ Ok after.now) }
+{
+    let (octet, rest) = octets.split_first()?;
+    match tag_from(*octet)? {
+        Tag::Fixed(tag) => {
+            let width = tag.width();
+            if rest.len() < width {
+                return None;
+            }
+            Some(&rest[width..])
+        }
+        Tag::LongString => {
+            if rest.len() < 4 {
+                return None;
+            }
+            let count = BigEndian::read_u32(rest) as usize;
+            let text = &rest[4..];
+            if text.len() < count {
+                return None;
+            }
+            Some(&text[count..])
+        }
+        _ => None,
+    }
+}
+
+/// The octets after a pair that lies whole in these, and whose value is of fixed size or a long string.
+///
+/// Most pairs are such: [`check_pair`] checks what this leaves, and finds the faults.
+#[inline(always)]
+fn past_plain_pair(octets: &[u8]) -> Option<&[u8]>
+    ensures { IfSome result (λ after. (levels end : ℕ)
+        → skipped (named (value_at levels) end octets.now) ≡ Ok after.now) }
+{
+    let (length, after) = octets.split_first()?;
+    let length = usize::from(*length);
+    if after.len() < length {
+        return None;
+    }
+    past_plain_value(&after[length..])
+}
+
+/// Checks a name and the value under it. The answer is how many octets are left after both.
+#[inline(never)]
 #[cycle(check)]
-fn check_pair(octets: &[u8], end: usize, levels: usize) -> Result<&[u8], ValueFault>
+fn check_pair(octets: &[u8], end: usize, levels: usize) -> Result<usize, ValueFault>
     requires { length octets.now ≤ end }
-    ensures { Equals (λ x. x.now) result (skipped (named (value_at levels) end octets.now)) }
+    ensures checked { Equals (λ left. drop (length octets.now - left) octets.now) result
+        (skipped (named (value_at levels) end octets.now)) }
+    ensures within { IfOk result (λ left. left ≤ length octets.now) }
 {
     let (_, field) = name_octets(octets, end)?;
-    check_value(field, end, levels)
+    let after = check_value(field, end, levels)?;
+    Ok(after.len())
 }
 
 /// Checks the pairs of a table, whose octets these are.
@@ -89,7 +137,13 @@ fn check_pairs(body: &[u8], end: usize, levels: usize) -> Result<(), ValueFault>
 {
     let mut rest = body;
     while !rest.is_empty() {
-        rest = check_pair(rest, end, levels)?;
+        rest = match past_plain_pair(rest) {
+            Some(after) => after,
+            None => {
+                let left = check_pair(rest, end, levels)?;
+                &rest[rest.len() - left..]
+            }
+        };
     }
     Ok(())
 }

@@ -1,10 +1,11 @@
 use Rattle.std.proofs.Common.{◌≡◌, ◌-◌, ◌<◌, ◌∙◌, ap, sym, refl, subst, ℕ, List, [], ◌∷◌, ◌++◌, length, take, drop, map, Ok, arith}
-use Rattle.std.proofs.lemmas.List.{map_push, take_all, length-drop}
+use Rattle.std.proofs.lemmas.List.{map_push, take_all}
 use Rattle.amqp_value.specs.Lent.{value_ref_view}
 use Rattle.amqp_value.specs.Reading.{AddsOne, named, value_at}
 use Rattle.amqp_value.specs.View.{view, named_view}
 use Rattle.amqp_value.specs.Whole.{items_encoded, pairs_encoded}
 use Rattle.amqp_value.specs.declared.values.Value.{Value}
+use Rattle.amqp_value.proofs.Adding.{from_place}
 use Rattle.amqp_value.proofs.Elements.{IsEnd-last, some_left, none_left, pair-consumes, value_at-consumes, named-ok}
 use Rattle.amqp_value.proofs.Owning.{next-item, begins-item, begins-pair, pair-name, pair-value, keeps, adds, all-items, all-pairs}
 use Rattle.amqp_value.proofs.own.+own.Goals as goal
@@ -81,10 +82,6 @@ own_pairs-loop-rest-preserved-in-Some t c =
     let long = some_left c.loop-rest.rest.now _ c.is_empty.ensures c.loop-rest-test.true in
     adds c.args.body.now c.loop-rest.rest.now c.in-Some.after.now (map named_view c.loop-rest.pairs.items) (map named_view c.own_short_pair.new.pairs.items) (c.in-Some.ensures.added 31 0)
     c.loop-rest.invariant.1 long c.loop-rest.invariant.0 c.loop-rest.invariant.2
-
--- the octets from a place on, as a slice of them is
-from_place : (place : ℕ) (octets : List ℕ) → take (length octets - place) (drop place octets) ≡ drop place octets
-from_place place octets = take_all (length octets - place) (drop place octets) (omega (arith, length-drop place octets))
 
 pub own_pairs-loop-rest-smaller : goal.own_pairs-loop-rest-smaller
 own_pairs-loop-rest-smaller t c =
