@@ -1,7 +1,7 @@
 -- Reading a pair and adding it to those before.
 use Rattle.std.proofs.Common.{◌≡◌, ◌∙◌, ap, ℕ, zero, suc, ◌-◌, ◌≤◌, List, ◌∷◌, length, take, drop, Some, Ok, ltb, false, refl, arith}
 use Rattle.std.proofs.lemmas.Bool.{le-ltb}
-use Rattle.std.proofs.lemmas.List.{take_all, length-drop}
+use Rattle.std.proofs.lemmas.List.{take_rest, length-drop}
 use Rattle.byteorder.specs.Endian.{big_number}
 use Rattle.amqp_value.specs.Reading.{Reader, counted, name_at, named, under, after_tag, tagged, tag_of, width_of, scalar_of, value_at}
 use Rattle.amqp_value.specs.Values.{scalar, long_string}
@@ -13,10 +13,6 @@ use Rattle.amqp_value.specs.declared.tag.Tag.TheVariants.{Fixed}
 pub named-is : {X : Type 0} (read : Reader X) (end : ℕ) (octets name field : List ℕ) → name_at end octets ≡ Ok (name, field) → named read end octets ≡ under name (read end field)
 unfolding named
 named-is read end octets name field first = rw first refl
-
--- the octets from a place on, as a slice of them is
-pub from_place : (place : ℕ) (octets : List ℕ) → take (length octets - place) (drop place octets) ≡ drop place octets
-from_place place octets = take_all (length octets - place) (drop place octets) (omega (arith, length-drop place octets))
 
 -- a name that lies whole in what follows its length
 pub name-is : (end length_octet n : ℕ) (octets : List ℕ) → n ≡ length_octet → n ≤ length octets → name_at end (length_octet ∷ octets) ≡ Ok (take n octets, drop n octets)
@@ -42,10 +38,10 @@ long_string-read (suc levels) end octet rest text after is read = rw (is, read) 
 pub text-read : (levels end octet n : ℕ) (rest text : List ℕ) → octet ≡ 83 → 4 ≤ length rest → n ≡ big_number 4 rest → text ≡ take (length rest - 4) (drop 4 rest) → n ≤ length text
     → value_at levels end (octet ∷ rest) ≡ Ok (long_string (take n text), take (length text - n) (drop n text))
 text-read levels end octet n rest text is long is_n is_text there =
-    let same : text ≡ drop 4 rest = is_text ∙ from_place 4 rest in
+    let same : text ≡ drop 4 rest = is_text ∙ take_rest rest 4 in
     let fits : big_number 4 rest ≤ length rest - 4 = omega (arith, length-drop 4 rest, ap length same) in
     let read : counted end rest ≡ Ok (take n text, drop n text) = rw (is_n, same) (counted-is end rest long fits) in
-    rw (from_place n text) (long_string-read levels end octet rest (take n text) (drop n text) is read)
+    rw (take_rest text n) (long_string-read levels end octet rest (take n text) (drop n text) is read)
 
 pub width-most : (tag : ScalarTag) → width_of tag ≤ 8
 width-most scalars.Boolean = omega arith

@@ -1,6 +1,6 @@
 //! Octets of which a few lie in place.
 
-ghost use Rattle.std.specs.Prelude.{◌≡◌, ◌≤◌, length, take, slice_index, IfOk, IfSome};
+ghost use Rattle.std.specs.Prelude.{◌≡◌, ◌≤◌, ◌<◌, length, take, slice_index, IfOk, IfSome};
 ghost use Rattle.std.specs.Prelude.{nat_eq, ◌==◌};
 ghost use Rattle.std.specs.Cmp.{partial_equiv_from_equiv};
 ghost use Rattle.std.specs.Cmp.Lexicographic.{pointwise, nat_list_eq_equiv};
@@ -223,6 +223,9 @@ fn in_place(octets: &[u8], len: usize) -> [u8; ROOM]
     if octets.len() >= IN_PLACE {
         return filled(octets, len);
     }
+    if len > WORD && len <= TWO_WORDS {
+        return to_end(octets, len);
+    }
     copied(octets, len)
 }
 
@@ -254,6 +257,26 @@ fn two_words(octets: &[u8], len: usize) -> [u8; ROOM]
     let mut room = [0; ROOM];
     BigEndian::write_u64(&mut room, first);
     BigEndian::write_u64(&mut room[WORD..], second);
+    BigEndian::write_u64(&mut room[TWO_WORDS..], len as u64);
+    room
+}
+
+/// Two words of them, of which the second ends with the last of the first `len`.
+///
+/// The words overlap. Those octets of the second that stand in the first too are shifted out of it.
+#[inline(always)]
+fn to_end(octets: &[u8], len: usize) -> [u8; ROOM]
+    requires within { len ≤ length octets.now }
+    requires long { 8 < len }
+    requires room { len ≤ 16 }
+    ensures octets { take len result ≡ take len octets.now }
+    ensures len { slice_index result 23 ≡ len }
+{
+    let first = BigEndian::read_u64(octets);
+    let last = BigEndian::read_u64(&octets[len - WORD..]);
+    let mut room = [0; ROOM];
+    BigEndian::write_u64(&mut room, first);
+    BigEndian::write_u64(&mut room[WORD..], last << (8 * (TWO_WORDS - len)));
     BigEndian::write_u64(&mut room[TWO_WORDS..], len as u64);
     room
 }

@@ -123,9 +123,12 @@ impl ShortStr {
         Ok(ShortStr { text })
     }
 
-    /// The first `len` octets, of which there may be more.
+    /// The first `len` octets, of which there may be more: those after them are not part of the text.
+    ///
+    /// A text that lies among other octets is best given with those that follow it. A short one is then copied by whole
+    /// words, which takes less time than [`new`](ShortStr::new) of its octets alone.
     #[inline(always)]
-    pub(crate) fn prefix(alloc: Global, octets: &[u8], len: usize) -> Result<ShortStr, AllocError>
+    pub fn prefix(alloc: Global, octets: &[u8], len: usize) -> Result<ShortStr, AllocError>
         requires within { len ≤ length octets.now }
         requires short { len ≤ 255 }
         ensures { IfOk result (λ s. s ≡ take len octets.now) }

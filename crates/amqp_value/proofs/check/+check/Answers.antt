@@ -1,8 +1,8 @@
 use Rattle.std.proofs.Common.{◌≡◌, ◌∙◌, ◌-◌, ◌≤◌, ◌<◌, ℕ, List, Ok, ap, sym, length, drop, arith}
+use Rattle.std.proofs.lemmas.List.{take_rest}
 use Rattle.std.proofs.lemmas.Result.{err_from_is_err_and}
 use Rattle.amqp_value.specs.Checking.{skipped, fault_in}
 use Rattle.amqp_value.specs.Reading.{elements, name_at, named, value_at}
-use Rattle.amqp_value.proofs.Adding.{from_place}
 use Rattle.amqp_value.proofs.Elements.{some_left, none_left, value_at-consumes, pair-consumes}
 use Rattle.amqp_value.proofs.Skipping.{fault_goes_on, fault_ends, fault_is_done, skipped-shorter, skipped-last, named-skipped, named-unnamed}
 use Rattle.amqp_value.proofs.check.+check.Goals as goal
@@ -90,14 +90,14 @@ pub check_pairs-loop-rest-smaller : goal.check_pairs-loop-rest-smaller
 check_pairs-loop-rest-smaller t c =
     let rest = c.loop-rest.rest.now in
     let place = length rest - c.in_ok-left-in-None.left in
-    rw (from_place place rest) (skipped-shorter (named (value_at c.args.levels)) c.args.end (pair-consumes c.args.levels c.args.end) rest (drop place rest) c.in_ok-left-in-None.ensures.checked)
+    rw (take_rest rest place) (skipped-shorter (named (value_at c.args.levels)) c.args.end (pair-consumes c.args.levels c.args.end) rest (drop place rest) c.in_ok-left-in-None.ensures.checked)
 
 pub check_pairs-loop-rest-preserved : goal.check_pairs-loop-rest-preserved
 check_pairs-loop-rest-preserved t c =
     let rest = c.loop-rest.rest.now in
     let place = length rest - c.in_ok-left-in-None.left in
     let long = some_left rest _ c.is_empty.ensures c.loop-rest-test.true in
-    rw (from_place place rest) (past_pair c.args.levels c.args.end c.args.body.now rest (drop place rest) long c.loop-rest.invariant.0 c.in_ok-left-in-None.ensures.checked c.loop-rest.invariant.1)
+    rw (take_rest rest place) (past_pair c.args.levels c.args.end c.args.body.now rest (drop place rest) long c.loop-rest.invariant.0 c.in_ok-left-in-None.ensures.checked c.loop-rest.invariant.1)
 
 pub check_pairs-returns : goal.check_pairs-returns
 check_pairs-returns t c =

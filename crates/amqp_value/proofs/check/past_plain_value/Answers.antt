@@ -1,7 +1,8 @@
 use Rattle.std.proofs.Common.{Some, refl, ap, sym, ◌∙◌, arith}
+use Rattle.std.proofs.lemmas.List.{take_rest}
 use Rattle.amqp_value.specs.Checking.{skipped}
 use Rattle.amqp_value.specs.declared.tag.Tag.TheVariants.{LongString}
-use Rattle.amqp_value.proofs.Adding.{from_place, scalar-read, text-read}
+use Rattle.amqp_value.proofs.Adding.{scalar-read, text-read}
 use Rattle.amqp_value.proofs.Tags.{tag_of-octet}
 use Rattle.amqp_value.proofs.check.past_plain_value.Goals as goal
 
@@ -9,7 +10,7 @@ pub returns-else-rest-width : goal.returns-else-rest-width
 returns-else-rest-width c = λ levels end.
     let tag = sym c.tag_from.ensures ∙ c.in_ok-tag.was ∙ ap (λ tag. Some tag) c.in-Fixed.is in
     let rest = c.in_ok-octet.rest.now in
-    rw (c.in_ok-octet.ensures.cases.0, from_place c.width-width.result rest, c.width-width.ensures)
+    rw (c.in_ok-octet.ensures.cases.0, take_rest rest c.width-width.result, c.width-width.ensures)
     (ap skipped (scalar-read levels end c.in_ok-octet.octet.now rest c.in-Fixed.tag tag (omega (arith, c.width-width.ensures, c.if-rest-width.false))))
 
 pub returns-else-text-count : goal.returns-else-text-count

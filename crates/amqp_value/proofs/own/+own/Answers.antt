@@ -1,11 +1,10 @@
 use Rattle.std.proofs.Common.{◌≡◌, ◌-◌, ◌<◌, ◌∙◌, ap, sym, refl, subst, ℕ, List, [], ◌∷◌, ◌++◌, length, take, drop, map, Ok, arith}
-use Rattle.std.proofs.lemmas.List.{map_push, take_all}
+use Rattle.std.proofs.lemmas.List.{map_push, take_all, take_rest}
 use Rattle.amqp_value.specs.Lent.{value_ref_view}
 use Rattle.amqp_value.specs.Reading.{AddsOne, named, value_at}
 use Rattle.amqp_value.specs.View.{view, named_view}
 use Rattle.amqp_value.specs.Whole.{items_encoded, pairs_encoded}
 use Rattle.amqp_value.specs.declared.values.Value.{Value}
-use Rattle.amqp_value.proofs.Adding.{from_place}
 use Rattle.amqp_value.proofs.Elements.{IsEnd-last, some_left, none_left, pair-consumes, value_at-consumes, named-ok}
 use Rattle.amqp_value.proofs.Owning.{next-item, begins-item, begins-pair, pair-name, pair-value, keeps, adds, all-items, all-pairs}
 use Rattle.amqp_value.proofs.own.+own.Goals as goal
@@ -88,7 +87,7 @@ own_pairs-loop-rest-smaller t c =
     let rest = c.loop-rest.rest.now in
     let place = length rest - c.in_ok-left-in-None.left in
     let one = c.in_ok-left-in-None.ensures.added in
-    subst (λ after. length after < length rest) (sym (from_place place rest)) ((pair-consumes 31 0).consumes rest (one.element, drop place rest) one.is_read)
+    subst (λ after. length after < length rest) (sym (take_rest rest place)) ((pair-consumes 31 0).consumes rest (one.element, drop place rest) one.is_read)
 
 pub own_pairs-loop-rest-preserved : goal.own_pairs-loop-rest-preserved
 own_pairs-loop-rest-preserved t c =
@@ -97,7 +96,7 @@ own_pairs-loop-rest-preserved t c =
     let after = take (length rest - place) (drop place rest) in
     let long = some_left rest _ c.is_empty.ensures c.loop-rest-test.true in
     let one : AddsOne (map named_view c.loop-rest.pairs.items) (named (value_at 31) 0 rest) after (map named_view c.own_pair.new.pairs.items) =
-    rw (from_place place rest, ← c.in-None.ensures.kept refl) c.in_ok-left-in-None.ensures.added in
+    rw (take_rest rest place, ← c.in-None.ensures.kept refl) c.in_ok-left-in-None.ensures.added in
     adds c.args.body.now rest after (map named_view c.loop-rest.pairs.items) (map named_view c.own_pair.new.pairs.items) one c.loop-rest.invariant.1 long c.loop-rest.invariant.0 c.loop-rest.invariant.2
 
 pub own_pairs-returns : goal.own_pairs-returns
