@@ -1,6 +1,6 @@
 -- Lent values that are built with memory of their own. A short string that was read has at most 255 octets, so building
 -- it fails for memory alone.
-use Rattle.std.specs.Prelude.{◌≡◌, ◌≤◌, length}
+use Rattle.std.specs.Prelude.{◌≡◌, ℕ, ◌≤◌, ◌<◌, List, length, take, drop}
 use Rattle.amqp_method.specs.Arguments.{Argument, short_string, kind_of}
 use Rattle.amqp_method.specs.declared.fields.FieldKind.{FieldKind}
 
@@ -13,3 +13,13 @@ IsShort other = Unit {0}
 pub record IsValueOf (kind : FieldKind) (value : Argument) : Type 0 where
   pub kind_is : kind_of value ≡ kind
   pub is_short : IsShort value
+
+-- the text of a short string in the octets that it was read of: a length octet stands before it
+pub record IsTextOf (octets text : List ℕ) : Type 0 where
+  pub are_there : length text < length octets
+  pub text_is : text ≡ take (length text) (drop 1 octets)
+
+-- where it is a short string, the octets begin with it
+abbrev pub BeginsText : List ℕ → Argument → Type 0
+BeginsText octets (short_string text) = IsTextOf octets text
+BeginsText octets other = Unit {0}

@@ -13,7 +13,7 @@ use crate::fields::{Field, FieldKind};
 pub struct ArgsRef<'a> {
     pub(crate) fields: &'static [Field],
     bits: Bits,
-    octets: &'a [u8],
+    pub(crate) octets: &'a [u8],
     end: usize,
     ghost within: { length octets.now ≤ end },
     ghost reads: { IsOk (args_at (map field_view fields.now) (bits_view bits) end octets.now) },
@@ -24,7 +24,7 @@ impl<'a> ArgsRef<'a> {
     ghost use Rattle.amqp_method.specs.Arguments.{keep};
     ghost use Rattle.amqp_method.specs.ArgRefView.{arg_ref_view};
     ghost use Rattle.amqp_method.specs.MethodRefs.{args_left, values_read, NextArg, FirstValue};
-    ghost use Rattle.amqp_method.specs.Owning.{IsShort};
+    ghost use Rattle.amqp_method.specs.Owning.{BeginsText, IsShort};
     ghost use Rattle.amqp_method.specs.Reading.{no_bits};
 
     /// The arguments for these fields, which begin with the first of the octets, in a payload that ends at `end`.
@@ -55,6 +55,7 @@ impl<'a> ArgsRef<'a> {
         ensures value { args_left self.entry ≡ keep field.now.reserved (arg_ref_view result.0) (args_left result.1) }
         ensures left { result.1.fields.now ≡ fields.now }
         ensures short { IsShort (arg_ref_view result.0) }
+        ensures text { BeginsText self.entry.octets.now (arg_ref_view result.0) }
     {
         let mut bits = self.bits;
         match read_arg(kind, &mut bits, self.octets, self.end) {

@@ -5,6 +5,7 @@ ghost use Rattle.byteorder.specs.Endian.{big_number};
 ghost use Rattle.amqp_method.specs.Arguments.{bit};
 ghost use Rattle.amqp_method.specs.BitsView.{bits_view};
 ghost use Rattle.amqp_method.specs.Faults.{in_table};
+ghost use Rattle.amqp_method.specs.Owning.{IsTextOf};
 ghost use Rattle.amqp_method.specs.Reading.{Equals, read_bit, ends_at, read_number, short_string_at, long_string_at, field_table_at, nothing_after, rest_of};
 
 use crate::faults::{MethodFault, MethodFaultKind};
@@ -95,6 +96,7 @@ pub(crate) fn read_short_octets(octets: &[u8], end: usize) -> Result<(&[u8], &[u
     ensures read { Equals (λ x. (x.0.now, x.1.now)) result (short_string_at end octets.now) }
     ensures within { IfOk result (λ x. length x.1.now ≤ length octets.now) }
     ensures short { IfOk result (λ x. length x.0.now < 2 ^ 8) }
+    ensures text { IfOk result (λ x. IsTextOf octets.now x.0.now) }
 {
     let Some((length, after)) = octets.split_first() else {
         return Err(ends_here(octets, end));

@@ -5,7 +5,7 @@ ghost use Rattle.amqp_method.specs.Arguments.{keep as keeping, short_string};
 ghost use Rattle.amqp_method.specs.MethodRefs.{args_left, AddsFirst};
 ghost use Rattle.amqp_method.specs.KnownFields.{BeginsWith};
 ghost use Rattle.amqp_method.specs.Kinds.{fields_of};
-ghost use Rattle.amqp_method.specs.Owning.{IsShort};
+ghost use Rattle.amqp_method.specs.Owning.{BeginsText, IsShort};
 ghost use Rattle.amqp_method.specs.Rows.{field_view};
 ghost use Rattle.amqp_method.specs.Views.{args_view};
 ghost use Rattle.amqp_method.specs.declared.kinds.Kind.TheVariants.{BasicPublish, BasicDeliver, BasicAck};
@@ -70,9 +70,17 @@ fn keep_owned(args: &mut Vec<Arg>, reserved: bool, arg: ArgRef<'_>) -> Result<()
     Ok(())
 }
 
-/// The same where there is room for it.
+/// The same where there is room for it, of an argument that was read of these octets.
+///
+/// A short string is built of them, which go on after it: so a short one is copied by whole words.
 #[inline(always)]
-fn put_owned(args: &mut Vec<Arg>, reserved: bool, arg: ArgRef<'_>) -> Result<(), OutOfMemory>
+fn put_owned(
+    args: &mut Vec<Arg>,
+    reserved: bool,
+    arg: ArgRef<'_>,
+    octets: &[u8],
+) -> Result<(), OutOfMemory>
+    requires text { BeginsText octets.now (arg_ref_view arg) }
     requires short { IsShort (arg_ref_view arg) }
     requires room { vec_len args.old < vec_capacity args.old }
     ensures added { OnOk result (args_view args.new.items
@@ -91,7 +99,10 @@ fn put_owned(args: &mut Vec<Arg>, reserved: bool, arg: ArgRef<'_>) -> Result<(),
         ArgRef::Short(number) => args.push_reserved(Arg::Short(number)),
         ArgRef::Long(number) => args.push_reserved(Arg::Long(number)),
         ArgRef::LongLong(number) => args.push_reserved(Arg::LongLong(number)),
-        ArgRef::ShortStr(text) => args.push_reserved(Arg::ShortStr(own_short_string(alloc, text)?)),
+        ArgRef::ShortStr(text) => {
+            let text = ShortStr::prefix(alloc, &octets[1..], text.len())?;
+            args.push_reserved(Arg::ShortStr(text));
+        }
         ArgRef::LongStr(text) => args.push_reserved(Arg::LongStr(Vec::from_slice(alloc, text)?)),
         ArgRef::Table(table) => args.push_reserved(Arg::Table(table.to_owned(alloc)?)),
     }
@@ -169,7 +180,7 @@ impl<'a> ArgsRef<'a> {
             unreachable!()
         };
         let (arg, after) = self.first_value(kind, field, fields);
-        put_owned(args, reserved, arg)?;
+        put_owned(args, reserved, arg, self.octets)?;
         Ok(after)
     }
 
