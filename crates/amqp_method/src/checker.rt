@@ -124,7 +124,8 @@ fn are_of_ack(octets: &[u8], end: usize) -> Option<()>
 #[inline(always)]
 fn are_of_publish(octets: &[u8], end: usize) -> Option<()>
     requires { length octets.now ≤ end }
-    ensures { IfSome result (λ done. kind_read (call_at end octets.now (Some Kind.BasicPublish)) ≡ Ok Kind.BasicPublish) }
+    ensures { IfSome result (λ done.
+        kind_read (call_at end octets.now (Some Kind.BasicPublish)) ≡ Ok Kind.BasicPublish) }
 {
     let (left, octets) = past(FieldKind::Short, 0, octets, end)?;
     let (left, octets) = past(FieldKind::ShortStr, left, octets, end)?;
@@ -138,7 +139,8 @@ fn are_of_publish(octets: &[u8], end: usize) -> Option<()>
 #[inline(always)]
 fn are_of_deliver(octets: &[u8], end: usize) -> Option<()>
     requires { length octets.now ≤ end }
-    ensures { IfSome result (λ done. kind_read (call_at end octets.now (Some Kind.BasicDeliver)) ≡ Ok Kind.BasicDeliver) }
+    ensures { IfSome result (λ done.
+        kind_read (call_at end octets.now (Some Kind.BasicDeliver)) ≡ Ok Kind.BasicDeliver) }
 {
     let (left, octets) = past(FieldKind::ShortStr, 0, octets, end)?;
     let (left, octets) = past(FieldKind::LongLong, left, octets, end)?;

@@ -71,8 +71,8 @@ fn past_properties(flags: u16, octets: &[u8], end: usize) -> Result<&[u8], Metho
 /// The octets after the table of headers, if it is flagged and there.
 #[inline(always)]
 fn past_headers(flags: u16, octets: &[u8]) -> Option<&[u8]>
-    ensures read { IfSome result (λ after. (end : ℕ) → rest_of (optional_at (has_flag 13 flags) (kind_at 2) end octets.now)
-        ≡ Ok after.now) }
+    ensures read { IfSome result (λ after. (end : ℕ)
+        → rest_of (optional_at (has_flag 13 flags) (kind_at 2) end octets.now) ≡ Ok after.now) }
     ensures within { IfSome result (λ after. length after.now ≤ length octets.now) }
 {
     let property = property_at(2);
