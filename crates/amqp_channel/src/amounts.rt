@@ -81,7 +81,7 @@ impl Life {
         ensures small { result.body < 2 ^ 63 }
     {
         Amount {
-            header: self.header as u64,
+            header: self.content.header_octets() as u64,
             body: self.content.octets() as u64,
         }
     }

@@ -67,6 +67,9 @@ pub enum Channel {
     },
 }
 
+// So much an idle channel takes.
+const _: () = prove!(size_of::<Channel>() == 40);
+
 impl Channel {
     ghost use Rattle.amqp_model.specs.End.Asks.{is_free};
     ghost use Rattle.amqp_model.specs.End.Closes.{Cause, close_for, flow_as, without_arguments};
@@ -474,7 +477,7 @@ impl Channel {
         match self {
             Channel::Open(life) => match &life.content {
                 Gathering::HeaderDue(_) => Verdict::Faults(CloseCode::SyntaxError),
-                Gathering::Nothing | Gathering::BodyDue(_) | Gathering::Deferred(_) => {
+                Gathering::Nothing | Gathering::BodyDue { .. } | Gathering::Deferred(_) => {
                     Verdict::Faults(CloseCode::UnexpectedFrame)
                 }
             },

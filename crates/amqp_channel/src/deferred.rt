@@ -2,7 +2,7 @@
 //!
 //! A table takes up to 40 times its octets in memory, and a peer may begin a content on each channel and leave it there. So of a
 //! long header with a table the octets are kept, and read when the body is whole.
-ghost use Rattle.std.specs.Prelude.{◌≡◌, ◌++◌, ◌+◌, length, IfOk, IfErr, OnOk, OnErr};
+ghost use Rattle.std.specs.Prelude.{◌≡◌, ◌++◌, ◌+◌, length, IfOk, IfErr, IfSome, OnOk, OnErr};
 ghost use Rattle.amqp_method.specs.CarrierView.{carrier_view};
 ghost use Rattle.amqp_method.specs.HeaderRefView.{lent_header};
 ghost use Rattle.amqp_method.specs.HeaderView.{properties_view};
@@ -10,9 +10,11 @@ ghost use Rattle.amqp_model.specs.Wire.Methods.{header_at};
 ghost use Rattle.amqp_model.specs.Wire.Readings.{HeaderOf, header_reading};
 ghost use Rattle.amqp_channel.specs.Contents.ContentView.{content_view};
 ghost use Rattle.amqp_channel.specs.Contents.DeferredView.{properties_of, IsHeaderOf};
+ghost use Rattle.amqp_channel.specs.ReadingView.{length_said};
 
 use crate::read::read_content_header;
 use amqp_method::{Content, HeaderRef, OutOfMemory};
+use amqp_model::bounds::headers_have_one_length;
 use std::alloc::Global;
 
 /// How many octets a header with a table may have that is kept as what was read of it: that takes at most 5 KiB.
@@ -28,15 +30,24 @@ pub struct Deferred {
     pub ghost reads: { IsHeaderOf size header.items },
 }
 
-/// Whether a header is kept as its octets.
+/// How many octets a header has that is kept as what was read of it. Any other is kept as its octets: one that is long and
+/// has a table, or whose length has no room beside a content.
 #[inline(always)]
-pub(crate) fn is_deferred(header: HeaderRef<'_>) -> bool {
-    KEPT_READ < header.payload().len() && header.headers().is_some()
+#[tactic(auto, using(crate::proofs::HeaderLemmas::length_measured))]
+pub(crate) fn length_if_read(header: HeaderRef<'_>) -> Option<u32>
+    ensures { IfSome result (λ octets. octets ≡ length_said header.entry) }
+{
+    headers_have_one_length();
+    let octets = header.payload().len();
+    if KEPT_READ < octets && header.headers().is_some() {
+        return None;
+    }
+    u32::try_from(octets).ok()
 }
 
 impl Deferred {
     /// Keeps the octets of a header. Out of memory, the content is given back.
-    #[tactic(auto, unfolding(amqp_model::specs::Wire::Methods::header_at))]
+    #[tactic(auto, unfolding(amqp_model::specs::Wire::Methods::header_at), using(crate::proofs::HeaderLemmas::length_measured))]
     pub(crate) fn new(
         alloc: Global,
         header: HeaderRef<'_>,
@@ -45,11 +56,13 @@ impl Deferred {
         ensures properties { IfOk result (λ d. properties_of d.value.header.items
             ≡ (lent_header header.entry).properties) }
         ensures size { IfOk result (λ d. d.value.size ≡ (lent_header header.entry).body_size) }
+        ensures length { IfOk result (λ d. length d.value.header.items ≡ length_said header.entry) }
         ensures method { IfOk result (λ d. carrier_view d.value.content.value.method
             ≡ carrier_view content.value.method) }
         ensures body { IfOk result (λ d. d.value.content.value.body.items ≡ content.value.body.items) }
         ensures back { IfErr result (λ c. carrier_view c.value.method ≡ carrier_view content.value.method) }
     {
+        headers_have_one_length();
         let size = header.body_size();
         let Ok(header) = Vec::from_slice(alloc, header.payload()) else {
             return Err(content);
@@ -65,6 +78,13 @@ impl Deferred {
             Ok(deferred) => Ok(deferred),
             Err(refused) => Err(refused.value.content),
         }
+    }
+
+    /// How many octets the header has.
+    pub(crate) fn header_octets(&self) -> usize
+        ensures { result ≡ length self.now.header.items }
+    {
+        self.header.len()
     }
 
     /// How many octets the body has.

@@ -5,12 +5,12 @@ ghost use Rattle.amqp_model.specs.End.FrameVerdict.{is_gathering};
 ghost use Rattle.amqp_model.specs.Wire.Gathering.{Nothing, HeaderDue};
 ghost use Rattle.amqp_model.specs.Wire.Readings.{BodyOf};
 ghost use Rattle.amqp_channel.specs.Contents.ContentView.{content_view};
-ghost use Rattle.amqp_channel.specs.Contents.GatheringView.{filling_of, IsBodyDue, IsKeptIn, IsRead, gathering_view};
-ghost use Rattle.amqp_channel.specs.ReadingView.{header_said};
+ghost use Rattle.amqp_channel.specs.Contents.GatheringView.{filling_of, gathering_view, header_kept, IsBodyDue, IsKeptIn, IsRead};
+ghost use Rattle.amqp_channel.specs.ReadingView.{header_said, length_said};
 ghost use Rattle.amqp_channel.specs.declared.gathering.Filling.TheVariants.{Short};
 ghost use Rattle.amqp_channel.specs.Verdict.VerdictView.{continued_with, headed_with, whole_at, whole_with, IsHeaderDue, IsWhole};
 
-use crate::deferred::{Deferred, is_deferred};
+use crate::deferred::{Deferred, length_if_read};
 use amqp_method::{Content, HeaderRef, OutOfMemory};
 use std::alloc::Global;
 use std::mem;
@@ -22,8 +22,9 @@ pub enum Gathering {
     Nothing,
     /// The method was taken, and the header is due.
     HeaderDue(Box<Content>),
-    /// The header was taken too, and some of the body.
-    BodyDue(Box<Content>),
+    /// The header was taken too, which has so many octets, and some of the body. The number stands first, where the tag
+    /// leaves room for it.
+    BodyDue { header: u32, content: Box<Content> },
     /// The same, where the header is kept as its octets.
     Deferred(Box<Deferred>),
 }
@@ -52,13 +53,25 @@ pub(crate) fn fill(size: u64, came: u64, more: usize) -> Filling
 }
 
 impl Gathering {
+    /// How many octets the header has of the content under way; 0 before it has come.
+    pub(crate) fn header_octets(&self) -> usize
+        ensures { result ≡ header_kept self.now }
+    {
+        match self {
+            Gathering::Nothing => 0,
+            Gathering::HeaderDue(_) => 0,
+            Gathering::BodyDue { header, .. } => *header as usize,
+            Gathering::Deferred(deferred) => deferred.header_octets(),
+        }
+    }
+
     /// Whether a content is under way.
     pub(crate) fn is_under_way(&self) -> bool
         ensures { result ≡ is_gathering (gathering_view self.now) }
     {
         match self {
             Gathering::Nothing => false,
-            Gathering::HeaderDue(_) | Gathering::BodyDue(_) | Gathering::Deferred(_) => true,
+            Gathering::HeaderDue(_) | Gathering::BodyDue { .. } | Gathering::Deferred(_) => true,
         }
     }
 
@@ -68,9 +81,10 @@ impl Gathering {
         requires { IsBodyDue self.old }
         ensures whole { IsKeptIn self.old result }
         ensures left { gathering_view self.new ≡ Nothing }
+        ensures header { header_kept self.new ≡ 0 }
     {
         match mem::replace(self, Gathering::Nothing) {
-            Gathering::BodyDue(content) => content,
+            Gathering::BodyDue { content, .. } => content,
             Gathering::Deferred(deferred) => Box::into_inner(deferred).content,
             Gathering::Nothing | Gathering::HeaderDue(_) => unreachable!(),
         }
@@ -98,9 +112,10 @@ impl Gathering {
         ensures ok { OnOk result (gathering_view self.new ≡ continued_with (BodyOf octets.now)
             (gathering_view self.old)) }
         ensures err { OnErr result (gathering_view self.new ≡ gathering_view self.old) }
+        ensures header { header_kept self.new ≡ header_kept self.old }
     {
         match self {
-            Gathering::BodyDue(content) => content.body.extend_from_slice(octets)?,
+            Gathering::BodyDue { content, .. } => content.body.extend_from_slice(octets)?,
             Gathering::Deferred(deferred) => deferred.content.body.extend_from_slice(octets)?,
             Gathering::Nothing | Gathering::HeaderDue(_) => {}
         }
@@ -117,11 +132,16 @@ impl Gathering {
             ≡ Some (content_view content.value)) }
         ensures left { OnOk result (gathering_view self.new ≡ Nothing) }
         ensures err { OnErr result (gathering_view self.new ≡ gathering_view self.old) }
+        ensures header { OnOk result (header_kept self.new ≡ 0) }
+        ensures kept { OnErr result (header_kept self.new ≡ header_kept self.old) }
     {
         match mem::replace(self, Gathering::Nothing) {
-            Gathering::BodyDue(mut content) => {
+            Gathering::BodyDue {
+                header,
+                mut content,
+            } => {
                 if let Err(fault) = append_last(&mut content.body, octets) {
-                    forget(mem::replace(self, Gathering::BodyDue(content)));
+                    forget(mem::replace(self, Gathering::BodyDue { header, content }));
                     return Err(fault);
                 }
                 Ok(content)
@@ -138,9 +158,11 @@ impl Gathering {
             ≡ Some (content_view content.value)) }
         ensures left { OnOk result (gathering_view self.new ≡ Nothing) }
         ensures err { OnErr result (gathering_view self.new ≡ gathering_view self.old) }
+        ensures header { OnOk result (header_kept self.new ≡ 0) }
+        ensures kept { OnErr result (header_kept self.new ≡ header_kept self.old) }
     {
         match self {
-            Gathering::BodyDue(content) => append_last(&mut content.body, octets)?,
+            Gathering::BodyDue { content, .. } => append_last(&mut content.body, octets)?,
             Gathering::Deferred(deferred) => {
                 let alloc = *deferred.content.body.allocator();
                 deferred.read_header(alloc)?;
@@ -159,11 +181,14 @@ impl Gathering {
         requires { IsHeaderDue (gathering_view self.old) }
         ensures ok { OnOk result (gathering_view self.new ≡ headed_with (header_said header.entry)
             (gathering_view self.old)) }
+        ensures header { OnOk result (header_kept self.new ≡ length_said header.entry) }
         ensures err { OnErr result (gathering_view self.new ≡ gathering_view self.old) }
+        ensures kept { OnErr result (header_kept self.new ≡ header_kept self.old) }
     {
         match mem::replace(self, Gathering::Nothing) {
             Gathering::HeaderDue(content) => self.keep_headed(alloc, header, content),
-            Gathering::Nothing | Gathering::BodyDue(_) | Gathering::Deferred(_) => unreachable!(),
+            Gathering::Nothing | Gathering::BodyDue { .. } | Gathering::Deferred(_) =>
+                unreachable!(),
         }
     }
 
@@ -178,6 +203,8 @@ impl Gathering {
             ≡ Some (content_view content.value)) }
         ensures left { OnOk result (gathering_view self.new ≡ Nothing) }
         ensures err { OnErr result (gathering_view self.new ≡ gathering_view self.old) }
+        ensures header { OnOk result (header_kept self.new ≡ 0) }
+        ensures kept { OnErr result (header_kept self.new ≡ header_kept self.old) }
     {
         match mem::replace(self, Gathering::Nothing) {
             Gathering::HeaderDue(mut content) => {
@@ -188,7 +215,8 @@ impl Gathering {
                 content.body.clear();
                 Ok(content)
             }
-            Gathering::Nothing | Gathering::BodyDue(_) | Gathering::Deferred(_) => unreachable!(),
+            Gathering::Nothing | Gathering::BodyDue { .. } | Gathering::Deferred(_) =>
+                unreachable!(),
         }
     }
 
@@ -203,17 +231,25 @@ impl Gathering {
     ) -> Result<(), OutOfMemory>
         ensures ok { OnOk result (gathering_view self.new ≡ headed_with (header_said header.entry)
             (HeaderDue (carrier_view content.value.method))) }
+        ensures header { OnOk result (header_kept self.new ≡ length_said header.entry) }
         ensures err { OnErr result (gathering_view self.new ≡ HeaderDue (carrier_view content.value.method)) }
+        ensures kept { OnErr result (header_kept self.new ≡ 0) }
     {
         content.body.clear();
-        if is_deferred(header) {
+        let Some(length) = length_if_read(header) else {
             return self.defer(alloc, header, content);
-        }
+        };
         if let Err(fault) = header.read_into(alloc, &mut content.header) {
             *self = Gathering::HeaderDue(content);
             return Err(fault);
         }
-        forget(mem::replace(self, Gathering::BodyDue(content)));
+        forget(mem::replace(
+            self,
+            Gathering::BodyDue {
+                header: length,
+                content,
+            },
+        ));
         Ok(())
     }
 
@@ -227,7 +263,9 @@ impl Gathering {
         requires { content.value.body.items ≡ [] }
         ensures ok { OnOk result (gathering_view self.new ≡ headed_with (header_said header.entry)
             (HeaderDue (carrier_view content.value.method))) }
+        ensures header { OnOk result (header_kept self.new ≡ length_said header.entry) }
         ensures err { OnErr result (gathering_view self.new ≡ HeaderDue (carrier_view content.value.method)) }
+        ensures kept { OnErr result (header_kept self.new ≡ 0) }
     {
         match Deferred::new(alloc, header, content) {
             Ok(deferred) => {

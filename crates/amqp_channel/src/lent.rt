@@ -41,7 +41,6 @@ impl Channel {
             Progress::NoContent => Channel::Open(Life {
                 content: Gathering::Nothing,
                 standing,
-                header: 0,
             }),
             Progress::AwaitsHeader(kind) => Channel::LentHeader(kind, standing),
             Progress::AwaitsBody { kind, size, came } => Channel::LentBody {
@@ -112,7 +111,6 @@ impl Channel {
                 *self = Channel::Open(Life {
                     content: Gathering::Nothing,
                     standing,
-                    header: 0,
                 });
             }
             _ => self.advance_anew(reading, told),

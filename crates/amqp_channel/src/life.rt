@@ -16,7 +16,7 @@ ghost use Rattle.amqp_channel.specs.declared.verdict.Verdict.TheVariants.{Procee
 ghost use Rattle.amqp_model.specs.Wire.Readings as readings;
 ghost use Rattle.amqp_model.specs.Wire.Readings.{Calls, BodyOf, HeaderOf, kind_of};
 ghost use Rattle.amqp_channel.specs.Contents.ContentView.{content_there, content_view};
-ghost use Rattle.amqp_channel.specs.Contents.GatheringView.{gathering_view, IsRead};
+ghost use Rattle.amqp_channel.specs.Contents.GatheringView.{gathering_view, header_kept, IsRead};
 ghost use Rattle.amqp_channel.specs.ReadingView.{header_said, reading_view};
 ghost use Rattle.amqp_channel.specs.Roles.{role_of};
 ghost use Rattle.amqp_channel.specs.Verdict.Passing.{IsOfContent, Passes};
@@ -31,7 +31,6 @@ use crate::standing::Standing;
 use crate::verdict::{Reply, Told, Verdict};
 use crate::words::lent_bit_at;
 use amqp_method::{Carrier, Content, HeaderRef, Kind, MethodRef, OutOfMemory};
-use amqp_model::bounds::headers_have_one_length;
 use std::alloc::Global;
 use std::mem::{forget, replace};
 
@@ -45,9 +44,8 @@ pub struct Life {
     pub content: Gathering,
     /// What waits, and what is paused.
     pub standing: Standing,
-    /// How many octets the header has of the content under way; 0 before it has come.
-    pub(crate) header: usize,
-    pub ghost measures: { header ≡ header_octets (gathering_view content) },
+    /// What is kept as the length of the header of the content under way is that.
+    pub ghost measures: { header_kept content ≡ header_octets (gathering_view content) },
 }
 
 impl Life {
@@ -60,7 +58,6 @@ impl Life {
         Life {
             content: Gathering::Nothing,
             standing: Standing::new(),
-            header: 0,
         }
     }
 }
@@ -221,7 +218,7 @@ impl Life {
             Gathering::HeaderDue(content) => {
                 passes_content(site.side, content.kind(), judge_awaited(site, header))
             }
-            Gathering::Nothing | Gathering::BodyDue(_) | Gathering::Deferred(_) => None,
+            Gathering::Nothing | Gathering::BodyDue { .. } | Gathering::Deferred(_) => None,
         }
     }
 
@@ -235,7 +232,7 @@ impl Life {
         ensures read { IfSome result (λ told. IsRead self.now.content) }
     {
         match &self.content {
-            Gathering::BodyDue(content) => passes_content(
+            Gathering::BodyDue { content, .. } => passes_content(
                 site.side,
                 content.kind(),
                 judge_part(
@@ -300,7 +297,7 @@ impl Life {
             (lent_header header.entry).properties) result }
     {
         match &self.content {
-            Gathering::Nothing | Gathering::BodyDue(_) | Gathering::Deferred(_) => {
+            Gathering::Nothing | Gathering::BodyDue { .. } | Gathering::Deferred(_) => {
                 Verdict::Faults(CloseCode::UnexpectedFrame)
             }
             Gathering::HeaderDue(_) => judge_awaited(site, header),
@@ -317,7 +314,7 @@ impl Life {
             Gathering::Nothing | Gathering::HeaderDue(_) => {
                 Verdict::Faults(CloseCode::UnexpectedFrame)
             }
-            Gathering::BodyDue(content) => judge_part(
+            Gathering::BodyDue { content, .. } => judge_part(
                 site,
                 content.header.body_size,
                 content.body.len() as u64,
@@ -388,7 +385,6 @@ impl Life {
         let content = Content::begun(alloc, Carrier::new(method.to_owned(alloc)?))?;
         self.keep_asked(alloc, side, method)?;
         self.content = Gathering::HeaderDue(content);
-        self.header = 0;
         Ok(())
     }
 
@@ -438,9 +434,7 @@ impl Life {
         ensures ok { OnOk result (life_view self.new ≡ with_content (life_view self.old) Nothing) }
         ensures err { OnErr result (life_view self.new ≡ life_view self.old) }
     {
-        let content = self.content.finish_due(octets)?;
-        self.header = 0;
-        Ok(content)
+        self.content.finish_due(octets)
     }
 
     /// A part of a body, after which more is due.
@@ -456,6 +450,7 @@ impl Life {
 
     /// A header, after which the body is due.
     #[inline(always)]
+    #[tactic(auto, using(crate::proofs::HeaderLemmas::measured_after))]
     pub(crate) fn keep_header(
         &mut self,
         alloc: Global,
@@ -467,11 +462,7 @@ impl Life {
             (life_view self.old)) }
         ensures err { OnErr result (life_view self.new ≡ life_view self.old) }
     {
-        headers_have_one_length();
-        let octets = header.payload().len();
-        self.content.head(alloc, header)?;
-        self.header = octets;
-        Ok(())
+        self.content.head(alloc, header)
     }
 
     /// The header of a content without a body, which is whole. A client's reply takes its request away.
@@ -491,7 +482,6 @@ impl Life {
     {
         let replies = side.is_client() && self.replies();
         let content = self.content.finish_header(alloc, header)?;
-        self.header = 0;
         if replies {
             self.standing.answer_request();
         }
@@ -510,7 +500,6 @@ impl Life {
     {
         let replies = side.is_client() && self.replies();
         let content = self.content.finish(octets)?;
-        self.header = 0;
         if replies {
             self.standing.answer_request();
         }
@@ -523,9 +512,8 @@ impl Life {
     {
         match &self.content {
             Gathering::Nothing => false,
-            Gathering::HeaderDue(content) | Gathering::BodyDue(content) => content
-                .kind()
-                .is_reply(),
+            Gathering::HeaderDue(content) => content.kind().is_reply(),
+            Gathering::BodyDue { content, .. } => content.kind().is_reply(),
             Gathering::Deferred(deferred) => deferred.content.kind().is_reply(),
         }
     }

@@ -77,7 +77,7 @@ impl Gathering {
         match self {
             Gathering::Nothing => Progress::NoContent,
             Gathering::HeaderDue(content) => Progress::AwaitsHeader(content.kind()),
-            Gathering::BodyDue(content) => Progress::AwaitsBody {
+            Gathering::BodyDue { content, .. } => Progress::AwaitsBody {
                 kind: content.kind(),
                 size: content.header.body_size,
                 came: content.body.len() as u64,

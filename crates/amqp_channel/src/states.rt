@@ -32,7 +32,7 @@ impl Gathering {
         match self {
             Gathering::Nothing => 0,
             Gathering::HeaderDue(_) => 0,
-            Gathering::BodyDue(content) => content.body.len(),
+            Gathering::BodyDue { content, .. } => content.body.len(),
             Gathering::Deferred(deferred) => deferred.content.body.len(),
         }
     }
