@@ -78,7 +78,7 @@ fn due_on(channel: &Channel) -> Rule
         Channel::Open(life) => match &life.content {
             Gathering::Nothing => Rule::ContentBegun,
             Gathering::HeaderDue(_) => Rule::HeaderDue,
-            Gathering::BodyDue(_) => Rule::BodyDue,
+            Gathering::BodyDue { .. } => Rule::BodyDue,
             Gathering::Deferred(_) => Rule::BodyDue,
         },
         Channel::Free | Channel::Opening | Channel::Closing => Rule::ContentBegun,
