@@ -6,7 +6,7 @@
 //!     Free --open put--> Opening --open-ok--> Open --close put--> Closing --close-ok--> Free
 //!     Free --open taken--> Open --close taken--> Free
 //!
-//! The rules only look. What a frame changes is done after, by what it tells: by an end that gathers contents, or by
+//! The rules only look. What a frame changes is done after, by its event: by an end that gathers contents, or by
 //! one that lends them as they come.
 ghost use Rattle.std.specs.Prelude.{◌≡◌, ◌<◌, ◌≤◌, ◌==◌, true, false, ℕ, List, IfOk, IfSome, IsOk, None, Some, MatchOption, OnOk, OnErr};
 ghost use Rattle.amqp_method.specs.HeaderRefView.{lent_header};
@@ -306,7 +306,7 @@ impl Channel {
         }
     }
 
-    /// What a frame tells that changes at most how far a content that is lent has come: a method that has nothing to do
+    /// The event of a frame that changes at most how far a content that is lent has come: a method that has nothing to do
     /// with requests, or a frame of the content under way. Most frames do no more.
     #[inline(always)]
     pub(crate) fn passes(&self, site: Site, reading: Reading<'_>) -> Option<Told>
@@ -594,7 +594,7 @@ impl Channel {
         *self = Channel::Free;
     }
 
-    /// The channel that a frame leaves of which this is told, where none was.
+    /// The channel that a frame with this event leaves, where none was.
     fn begun_with(told: Told) -> Channel
         ensures left { (role : Role) (reading : readings.Reading)
             → channel_view result ≡ told_on role reading told Free }
@@ -776,7 +776,7 @@ impl Channel {
         }
     }
 
-    /// What a frame leaves of which this is told.
+    /// What a frame with this event leaves.
     fn apply_told(
         &mut self,
         alloc: Global,

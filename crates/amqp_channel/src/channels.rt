@@ -32,7 +32,7 @@ use amqp_method::{Content, HeaderRef, MethodRef, OutOfMemory};
 use indexmap::IndexMap;
 use std::alloc::Global;
 
-/// What a frame tells that is done with at once, and the content that it makes whole, if it makes one whole.
+/// The event of a frame that is done with at once, and the content that it makes whole, if it makes one whole.
 #[derive(Drop)]
 pub struct Passed {
     pub told: Told,
@@ -281,7 +281,7 @@ impl Channels {
     }
 
     /// Judges a frame and leaves its channel, where that is done at once and contents are gathered: where the frame owes
-    /// no reply, and changes at most the content under way. The answer is what it tells, and the content that it makes
+    /// no reply, and changes at most the content under way. The answer is its event, and the content that it makes
     /// whole. Otherwise nothing is done, and the rules are asked by [`Channels::judge`]. Out of memory, the channel stays
     /// as it was.
     ///
@@ -603,7 +603,7 @@ impl Channels {
     }
 
     /// Judges a frame and leaves its channel, where that is done at once: where the frame owes no reply, and changes at
-    /// most how far a content that is lent has come. The answer is what it tells. Otherwise nothing is done, and the
+    /// most how far a content that is lent has come. The answer is its event. Otherwise nothing is done, and the
     /// rules are asked by [`Channels::judge`].
     ///
     /// Most frames are done with here: an ack takes 41 ns so, and 63 ns by way of a verdict. It stands apart, since a

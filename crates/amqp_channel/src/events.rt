@@ -1,4 +1,4 @@
-//! What an end tells its application, and the closes that it puts of itself.
+//! The events that an end reports to its application, and the closes that it puts of itself.
 ghost use Rattle.std.specs.Prelude.{◌≡◌, Some, IfOk};
 ghost use Rattle.amqp_model.specs.Wire.Methods.{octets_at};
 ghost use Rattle.amqp_method.specs.MethodRefView.{lent_call};
@@ -32,7 +32,7 @@ pub struct Reason {
     pub code: u16,
 }
 
-/// What an end tells of what it takes.
+/// What an end reports of the frames that it takes.
 #[derive(PartialEq, Eq, Debug, Drop)]
 pub enum Event {
     /// A gated client took start: its application is to answer it.

@@ -176,7 +176,7 @@ impl Channel {
         }
     }
 
-    /// What a frame leaves of which this is told, where contents are lent.
+    /// What a frame with this event leaves, where contents are lent.
     #[inline(always)]
     #[tactic(auto, using(crate::proofs::LentLemmas::alike_itself))]
     fn apply_told_lent(

@@ -108,7 +108,7 @@ pub(crate) fn judge_part(site: Site, size: u64, came: u64, octets: &[u8]) -> Ver
     }
 }
 
-/// What a frame of a content tells that has this verdict, where the content answers no request with it.
+/// The event of a frame of a content with this verdict, where the content answers no request with it.
 #[inline(always)]
 pub(crate) fn passes_content(side: Side, kind: Kind, verdict: Verdict) -> Option<Told>
     ensures verdict { IfSome result (λ told. verdict ≡ Proceeds told None) }
@@ -185,7 +185,7 @@ impl Life {
         tell_message(method)
     }
 
-    /// What a method tells that has nothing to do with requests, where no content is under way: a publish or an ack.
+    /// The event of a method that has nothing to do with requests, where no content is under way: a publish or an ack.
     #[inline(always)]
     pub(crate) fn passes(&self, site: Site, method: MethodRef<'_>) -> Option<Told>
         ensures rules { IfSome result (λ told. RulesByState site (Open (life_view self.now)) (lent_call method.entry)

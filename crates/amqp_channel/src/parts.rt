@@ -124,7 +124,7 @@ impl EventParts {
         }
     }
 
-    /// What a frame of a channel tells, where the caller has room for it. The frame makes this content whole, if any.
+    /// The event of a frame of a channel, where the caller has room for it. The frame makes this content whole, if any.
     #[inline(always)]
     pub fn tell(
         alloc: Global,

@@ -43,7 +43,7 @@ impl Progress {
         }
     }
 
-    /// How far the content has come after a frame of which this is told.
+    /// How far the content has come after a frame with this event.
     pub(crate) fn after(self, reading: Reading<'_>, told: Told) -> Progress
         requires { FitsProgress (reading_view reading) told (progress_view self) }
         ensures { progress_view result ≡ progress_with (reading_view reading.entry) told (progress_view self) }

@@ -38,7 +38,7 @@ pub enum Reply {
 /// What the rules say of a frame.
 #[derive(Clone, Copy)]
 pub enum Verdict {
-    /// The end goes on: what is told, and the reply that it owes, if it owes one.
+    /// The end goes on: the event, and the reply that it owes, if it owes one.
     Proceeds(Told, Option<Reply>),
     /// The content is refused at its header: the channel is closed with its code.
     RefusesContent,
