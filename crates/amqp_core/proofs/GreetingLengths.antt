@@ -8,7 +8,7 @@ use Rattle.amqp_model.specs.Wire.Notes.{Role, Server}
 use Rattle.amqp_core.specs.Connection.HandshakeMethods.{greeting_length, start_ok_octets}
 
 -- a configuration of a hello: a greeting needs no more
-abbrev config_of : {role : Role} → Hello role → Config role
+abbrev pub config_of : {role : Role} → Hello role → Config role
 config_of hello = record { frame_max = 0; channel_max = 0; max_body = 0; heartbeat = 0; gated = false; hello = hello }
 
 abbrev start_octets : (properties : Pairs) (mechanisms locales : List ℕ) → ℕ

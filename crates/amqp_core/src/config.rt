@@ -1,12 +1,15 @@
 //! What an application sets an end up with.
-ghost use Rattle.std.specs.Prelude.{◌≡◌, IfOk};
+ghost use Rattle.std.specs.Prelude.{◌≡◌, None, IfErr, IfOk};
+ghost use Rattle.amqp_model.specs.End.Fitting.{config_fault};
 ghost use Rattle.amqp_core.specs.Config.Configs.{set_up_as, settings_of};
 ghost use Rattle.amqp_core.specs.Config.Defaults.{HasDefaults};
-ghost use Rattle.amqp_core.specs.Config.Settings.{role_for};
+ghost use Rattle.amqp_core.specs.Config.Settings.{config_view, role_for};
 
-use crate::faults::OutOfMemory;
+use crate::faults::{ConfigFault, OutOfMemory};
+use crate::kept_hello::KeptHello;
 use crate::roles::Role;
 use crate::settings::Settings;
+use std::alloc::Global;
 
 /// What an end is set up with.
 #[derive(Drop)]
@@ -62,19 +65,27 @@ impl<R: Role> Config<R> {
         })
     }
 
-    /// The settings of an end, whichever role it plays.
-    pub(crate) fn into_settings(self) -> Settings
-        ensures settings { result ≡ settings_of R.hello_of self }
-        ensures role { role_for result ≡ R.role }
+    ghost use Rattle.amqp_core.specs.End.Beginning.{IsFaultIn};
+
+    /// The settings of an end, whichever role it plays, or why an end can't be set up so.
+    pub(crate) fn into_settings(self, alloc: Global) -> Result<Settings, ConfigFault>
+        ensures settings { IfOk result (λ settings. settings ≡ settings_of R.hello_of self) }
+        ensures role { IfOk result (λ settings. role_for settings ≡ R.role) }
+        ensures faultless { IfOk result (λ settings. config_fault (role_for settings) (config_view settings) ≡ None) }
+        ensures fault { IfErr result (λ fault. IsFaultIn (settings_of R.hello_of self) fault) }
     {
-        Settings {
+        let hello = R::into_hello(self.hello);
+        if let Some(fault) = hello.fault(self.frame_max, self.channel_max) {
+            return Err(fault);
+        }
+        Ok(Settings {
             frame_max: self.frame_max,
             channel_max: self.channel_max,
             max_body: self.max_body,
             heartbeat: self.heartbeat,
             gated: self.gated,
-            hello: R::into_hello(self.hello),
+            hello: KeptHello::new(alloc, hello)?,
             lends: false,
-        }
+        })
     }
 }

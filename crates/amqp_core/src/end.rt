@@ -133,10 +133,7 @@ impl<R: Role> End<R> {
     {
         octets::octets_follow();
         fitting::owed_read_back();
-        let settings = config.into_settings();
-        if let Some(fault) = settings.fault() {
-            return Err(fault);
-        }
+        let settings = config.into_settings(alloc)?;
         settings.try_greeting(alloc)?;
         let inner = Endpoint::new(alloc, settings)?;
         Ok(End {

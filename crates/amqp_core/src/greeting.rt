@@ -3,10 +3,11 @@ ghost use Rattle.std.specs.Prelude.{◌≡◌, IfOk};
 ghost use Rattle.amqp_value.specs.Tables.{table_view};
 ghost use Rattle.amqp_method.specs.MethodView.{method_view};
 ghost use Rattle.amqp_model.specs.End.Fitting as fitting;
-ghost use Rattle.amqp_core.specs.Connection.HandshakeMethods.{IsStart, IsOpen, IsTune, start_ok_saying};
+ghost use Rattle.amqp_core.specs.Connection.HandshakeMethods.{IsStart, IsOpen, IsTune, start_ok_saying, start_ok_with};
 
 use crate::faults::OutOfMemory;
-use crate::settings::{ClientHello, Hello, ServerHello, Settings};
+use crate::kept_hello::Kept;
+use crate::settings::{ClientHello, ServerHello, Settings};
 use amqp_method::{Arg, Kind, Method};
 use amqp_value::{ShortStr, Table};
 use std::alloc::Global;
@@ -47,6 +48,20 @@ pub(crate) fn start_ok(
     Ok(Method::new(Kind::ConnectionStartOk, args))
 }
 
+/// The start-ok that a client puts where its application chooses nothing else than its hello has.
+fn own_start_ok(alloc: Global, hello: &ClientHello) -> Result<Method, OutOfMemory>
+    ensures { IfOk result (λ m. method_view m ≡ start_ok_with hello.now hello.now.mechanism hello.now.response.items
+        hello.now.locale) }
+{
+    start_ok(
+        alloc,
+        &hello.properties,
+        &hello.mechanism,
+        &hello.response,
+        &hello.locale,
+    )
+}
+
 /// A client opens its virtual host.
 pub(crate) fn open(alloc: Global, hello: &ClientHello) -> Result<Method, OutOfMemory>
     ensures { IfOk result (λ m. IsOpen hello.now (method_view m)) }
@@ -74,15 +89,9 @@ impl Settings {
     pub(crate) fn greeting(&self, alloc: Global) -> Result<Method, OutOfMemory>
         ensures { IfOk result (λ m. method_view m ≡ fitting.greeting (role_for self.now) (config_view self.now)) }
     {
-        match &self.hello {
-            Hello::Client(hello) => start_ok(
-                alloc,
-                &hello.properties,
-                &hello.mechanism,
-                &hello.response,
-                &hello.locale,
-            ),
-            Hello::Server(hello) => start(alloc, hello),
+        match &self.hello.kept {
+            Kept::Client(hello) => own_start_ok(alloc, hello),
+            Kept::Server(hello) => start(alloc, hello),
         }
     }
 }

@@ -26,6 +26,7 @@ mod faults;
 mod greeting;
 mod heard;
 mod keeping;
+mod kept_hello;
 pub mod laws;
 mod ledger;
 mod lent_message;

@@ -10,8 +10,9 @@ ghost use Rattle.amqp_core.specs.Connection.Owed.{owed_view, starts, answers_sta
 ghost use Rattle.amqp_core.specs.Config.Settings.{role_for, config_view};
 
 use crate::greeting::{open, tune};
+use crate::kept_hello::Kept;
 use crate::replies::{bare, close, flow_ok, tune_ok};
-use crate::settings::{Hello, Settings};
+use crate::settings::Settings;
 use amqp_channel::{Agreed, CloseCode, Reply};
 use amqp_method::Kind;
 use amqp_outbox::{Outbox, StageFault};
@@ -39,9 +40,9 @@ fn stage_start(alloc: Global, settings: &Settings, outbox: &mut Outbox) -> Resul
         (map frame_of (starts (role_for settings.now) (config_view settings.now)))) }
     ensures err { OnErr result (outbox.new.output ≡ outbox.old.output) }
 {
-    match &settings.hello {
-        Hello::Client(_) => Ok(()),
-        Hello::Server(_) => {
+    match &settings.hello.kept {
+        Kept::Client(_) => Ok(()),
+        Kept::Server(_) => {
             let method = settings.greeting(alloc)?;
             outbox.stage_method(0, &method)
         }
@@ -54,12 +55,12 @@ fn stage_start_ok(alloc: Global, settings: &Settings, outbox: &mut Outbox) -> Re
         (map frame_of (answers_start (role_for settings.now) (config_view settings.now)))) }
     ensures err { OnErr result (outbox.new.output ≡ outbox.old.output) }
 {
-    match &settings.hello {
-        Hello::Client(_) => {
+    match &settings.hello.kept {
+        Kept::Client(_) => {
             let method = settings.greeting(alloc)?;
             outbox.stage_method(0, &method)
         }
-        Hello::Server(_) => Ok(()),
+        Kept::Server(_) => Ok(()),
     }
 }
 
@@ -69,9 +70,9 @@ fn stage_tune(alloc: Global, settings: &Settings, outbox: &mut Outbox) -> Result
         (map frame_of (tunes (role_for settings.now) (config_view settings.now)))) }
     ensures err { OnErr result (outbox.new.output ≡ outbox.old.output) }
 {
-    match &settings.hello {
-        Hello::Client(_) => Ok(()),
-        Hello::Server(_) => {
+    match &settings.hello.kept {
+        Kept::Client(_) => Ok(()),
+        Kept::Server(_) => {
             let method = tune(alloc, settings)?;
             outbox.stage_method(0, &method)
         }
@@ -89,14 +90,14 @@ fn stage_tune_ok(
         (map frame_of (answers_tune (role_for settings.now) (config_view settings.now) (agreed_view agreed)))) }
     ensures err { OnErr result (outbox.new.output ≡ outbox.old.output) }
 {
-    match &settings.hello {
-        Hello::Client(hello) => {
+    match &settings.hello.kept {
+        Kept::Client(hello) => {
             let settled = tune_ok(alloc, agreed)?;
             let opening = open(alloc, hello)?;
             outbox.stage_method(0, &settled)?;
             outbox.stage_method(0, &opening)
         }
-        Hello::Server(_) => Ok(()),
+        Kept::Server(_) => Ok(()),
     }
 }
 

@@ -13,13 +13,13 @@ ghost use Rattle.amqp_model.specs.History.Negotiation as negotiation;
 ghost use Rattle.amqp_core.specs.Asks.Controlled.{refusal_by};
 ghost use Rattle.amqp_core.specs.Connection.Decisions.{Decides};
 ghost use Rattle.amqp_core.specs.Faults.Numbers.{config_fault_view, refusal_view};
-ghost use Rattle.amqp_core.specs.Connection.HandshakeMethods.{IsStartLength, greeting_length, start_ok_with, start_ok_octets};
-ghost use Rattle.amqp_core.specs.Config.Settings.{client_hello_view, server_hello_view, hello_view, side_in};
+ghost use Rattle.amqp_core.specs.Connection.HandshakeMethods.{IsStartLength, start_ok_with, start_ok_octets};
+ghost use Rattle.amqp_core.specs.Config.Settings.{client_hello_view, server_hello_view, hello_view};
 
 use crate::faults::{AskFault, ConfigFault, OutOfMemory};
 use crate::greeting::start_ok;
+use crate::kept_hello::{Kept, KeptHello};
 use crate::stage::Stage;
-use amqp_channel::Side;
 use amqp_method::{Method, encoded_is_read, write_method};
 use amqp_value::{ShortStr, Table};
 use std::alloc::Global;
@@ -192,14 +192,42 @@ pub enum Hello {
 }
 
 impl Hello {
-    /// Whose hello it is.
-    pub(crate) fn side(&self) -> Side
-        ensures { result ≡ side_in self.now }
+    ghost use Rattle.amqp_core.specs.Config.Settings.{limited, role_in};
+    ghost use Rattle.amqp_core.specs.Connection.HandshakeMethods.{IsGreetingLength};
+
+    /// How long the frame of the greeting would be, which is a client's start-ok or a server's start.
+    fn greeting_length(&self) -> u64
+        ensures { IsGreetingLength self.now result }
     {
         match self {
-            Hello::Client(_) => Side::Client,
-            Hello::Server(_) => Side::Server,
+            Hello::Client(hello) => start_ok_length(
+                &hello.properties,
+                &hello.mechanism,
+                &hello.response,
+                &hello.locale,
+            ),
+            Hello::Server(hello) => hello.start_length(),
         }
+    }
+
+    /// Why an end with these limits can't say this, if it can't. It takes no memory.
+    pub(crate) fn fault(&self, frame_max: u32, channel_max: u16) -> Option<ConfigFault>
+        ensures none { (result ≡ None)
+            ↔ (config_fault (role_in self.now) (limited frame_max channel_max self.now) ≡ None) }
+        ensures fault { IfSome result (λ f. config_fault_view f
+            ≡ config_fault (role_in self.now) (limited frame_max channel_max self.now)) }
+    {
+        let frame_max = u64::from(frame_max);
+        if frame_max < FRAME_MIN || FRAME_MOST < frame_max {
+            return Some(ConfigFault::FrameMax);
+        }
+        if channel_max == 0 {
+            return Some(ConfigFault::ChannelMax);
+        }
+        if FRAME_MIN < self.greeting_length() {
+            return Some(ConfigFault::HelloTooLong);
+        }
+        None
     }
 }
 
@@ -219,45 +247,11 @@ pub(crate) struct Settings {
     pub(crate) gated: bool,
     /// The end lends what it takes, and keeps of a content under way only how far it has come.
     pub(crate) lends: bool,
-    pub(crate) hello: Hello,
+    pub(crate) hello: KeptHello,
 }
 
 impl Settings {
     ghost use Rattle.amqp_core.specs.Config.Settings.{role_for, config_view};
-
-    /// How long the frame of the greeting would be, which is a client's start-ok or a server's start.
-    fn greeting_length(&self) -> u64
-        ensures { result ≡ capped (greeting_length (role_for self.now) (config_view self.now)) }
-    {
-        match &self.hello {
-            Hello::Client(hello) => start_ok_length(
-                &hello.properties,
-                &hello.mechanism,
-                &hello.response,
-                &hello.locale,
-            ),
-            Hello::Server(hello) => hello.start_length(),
-        }
-    }
-
-    /// Why an end can't be set up so, if it can't. It takes no memory.
-    pub(crate) fn fault(&self) -> Option<ConfigFault>
-        ensures none { (result ≡ None) ↔ (config_fault (role_for self.now) (config_view self.now) ≡ None) }
-        ensures fault { IfSome result (λ f. config_fault_view f ≡ config_fault (role_for self.now)
-            (config_view self.now)) }
-    {
-        let frame_max = u64::from(self.frame_max);
-        if frame_max < FRAME_MIN || FRAME_MOST < frame_max {
-            return Some(ConfigFault::FrameMax);
-        }
-        if self.channel_max == 0 {
-            return Some(ConfigFault::ChannelMax);
-        }
-        if FRAME_MIN < self.greeting_length() {
-            return Some(ConfigFault::HelloTooLong);
-        }
-        None
-    }
 
     /// A channel number and a heartbeat are of 16 bits, and a virtual host is a short string.
     fn fits_fields(&self)
@@ -267,9 +261,9 @@ impl Settings {
     {
         let _channel_max = self.channel_max;
         let _heartbeat = self.heartbeat;
-        match &self.hello {
-            Hello::Client(hello) => fits_field(hello.virtual_host.as_bytes()),
-            Hello::Server(_) => {}
+        match &self.hello.kept {
+            Kept::Client(hello) => fits_field(hello.virtual_host.as_bytes()),
+            Kept::Server(_) => {}
         }
     }
 
@@ -287,9 +281,9 @@ impl Settings {
             ≡ refusal_by (answers_in (role_for self.now) (config_view self.now) (Handshake HoldsStart) mechanism.now
             response.now locale.now)) }
     {
-        match &self.hello {
-            Hello::Client(hello) => hello.allow_answer(mechanism, response, locale),
-            Hello::Server(_) => Err(AskFault::NotAwaited),
+        match &self.hello.kept {
+            Kept::Client(hello) => hello.allow_answer(mechanism, response, locale),
+            Kept::Server(_) => Err(AskFault::NotAwaited),
         }
     }
 
@@ -308,9 +302,9 @@ impl Settings {
             ≡ refusal_by (answers_in (role_for self.now) (config_view self.now) (Handshake HoldsStart) mechanism.now
             response.now locale.now)) }
     {
-        match &self.hello {
-            Hello::Client(hello) => hello.answer(alloc, mechanism, response, locale),
-            Hello::Server(_) => Err(AskFault::NotAwaited),
+        match &self.hello.kept {
+            Kept::Client(hello) => hello.answer(alloc, mechanism, response, locale),
+            Kept::Server(_) => Err(AskFault::NotAwaited),
         }
     }
 

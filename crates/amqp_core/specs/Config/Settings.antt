@@ -1,4 +1,5 @@
 -- What an end is set up with, in the words of the model.
+use Rattle.std.specs.Prelude.{ℕ, false}
 use Rattle.amqp_value.specs.Tables.{table_view}
 use Rattle.amqp_model.specs.History.Negotiation as model
 use Rattle.amqp_model.specs.Wire.Notes.{Role}
@@ -29,6 +30,18 @@ role_in hello = role_of (side_in hello)
 abbrev pub hello_view : (hello : Hello) → model.Hello (role_in hello)
 hello_view (code.Client hello) = client_hello_view hello
 hello_view (code.Server hello) = server_hello_view hello
+
+-- a configuration with these limits and this hello: nothing else has a part in what is at fault
+abbrev pub limited : (frame_max channel_max : ℕ) (hello : Hello) → model.Config (role_in hello)
+limited frame_max channel_max hello =
+    record {
+      frame_max = frame_max;
+      channel_max = channel_max;
+      max_body = 0;
+      heartbeat = 0;
+      gated = false;
+      hello = hello_view hello;
+    }
 
 -- the role that an end of these settings plays
 abbrev pub role_for : Settings → Role

@@ -12,8 +12,9 @@ use Rattle.amqp_model.specs.Wire.Methods.{Method}
 use Rattle.amqp_model.specs.History.Negotiation as negotiation
 use Rattle.amqp_model.specs.History.Negotiation.{Config}
 use Rattle.amqp_model.specs.Wire.Notes.{Role, Client, Server}
-use Rattle.amqp_core.specs.Config.Settings.{client_hello_view, server_hello_view}
+use Rattle.amqp_core.specs.Config.Settings.{client_hello_view, hello_view, role_in, server_hello_view}
 use Rattle.amqp_core.specs.declared.settings.ClientHello.{ClientHello}
+use Rattle.amqp_core.specs.declared.settings.Hello.{Hello}
 use Rattle.amqp_core.specs.declared.settings.ServerHello.{ServerHello}
 
 -- the start of a server with this hello
@@ -53,6 +54,12 @@ greeting_length role config = frame_length (method_frame 0 (greeting role config
 abbrev pub IsStartLength : ServerHello → ℕ → Type 0
 IsStartLength hello octets =
     (config : Config Server) → config.hello ≡ server_hello_view hello → octets ≡ capped (greeting_length Server config)
+
+-- the same for a hello of either role
+abbrev pub IsGreetingLength : Hello → ℕ → Type 0
+IsGreetingLength hello octets =
+    (config : Config (role_in hello)) → config.hello ≡ hello_view hello
+    → octets ≡ capped (greeting_length (role_in hello) config)
 
 -- how long the frame of a start-ok is
 abbrev pub start_ok_octets : (properties : Pairs) (mechanism response locale : List ℕ) → ℕ

@@ -1,8 +1,10 @@
+use Rattle.std.proofs.Common.{refl}
 use Rattle.std.proofs.lemmas.Result.{on_ok_weaker}
 use Rattle.amqp_core.proofs.OwedLemmas.{starts-server, staged_as}
+use Rattle.amqp_core.proofs.SettingsLemmas.{kept_as}
 use Rattle.amqp_core.proofs.owed.stage_start.Goals as goal
 
 pub returns-in_ok-method-in-Server-clause-ok : goal.returns-in_ok-method-in-Server-clause-ok
 returns-in_ok-method-in-Server-clause-ok c =
-    let owed = starts-server c.args.settings.now _ _ c.in-Server.is c.in_ok-method-in-Server.ensures in
+    let owed = starts-server c.args.settings.now _ _ (kept_as c.in-Server.is c.settings.view_is refl) c.in_ok-method-in-Server.ensures in
     on_ok_weaker c.stage_method.result (staged_as _ _ _ _ owed) c.stage_method.ensures.ok

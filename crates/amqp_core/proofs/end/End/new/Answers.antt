@@ -12,8 +12,8 @@ use Rattle.amqp_core.proofs.end.End.new.Goals as goal
 pub invariant_of-result : goal.invariant_of-result
 invariant_of-result g c = record {
   kept = sound_kept c.in_ok-inner.inner c.in_ok-inner.ensures.sound;
-  plays = ap (λ (s : Settings). role_for s) c.in_ok-inner.ensures.settings ∙ c.into_settings-settings.ensures.role;
-  gathers = ap (λ (s : Settings). s.lends) (c.in_ok-inner.ensures.settings ∙ c.into_settings-settings.ensures.settings);
+  plays = ap (λ (s : Settings). role_for s) c.in_ok-inner.ensures.settings ∙ c.in_ok-settings.ensures.role;
+  gathers = ap (λ (s : Settings). s.lends) (c.in_ok-inner.ensures.settings ∙ c.in_ok-settings.ensures.settings);
 }
 
 pub returns-clause-new : goal.returns-clause-new
