@@ -7,8 +7,9 @@ use Rattle.amqp_outbox.proofs.outbox.Outbox.TheSendSync as outbox_sent
 use Rattle.amqp_core.specs.contracts.connection.Connection as connection
 use Rattle.amqp_core.specs.contracts.endpoint.Endpoint as endpoint
 use Rattle.amqp_core.specs.contracts.heard.Heard as heard
+use Rattle.amqp_core.specs.contracts.kept_hello.Kept as kept
+use Rattle.amqp_core.specs.contracts.kept_hello.KeptHello as kept_hello
 use Rattle.amqp_core.specs.contracts.settings.ClientHello as client_hello
-use Rattle.amqp_core.specs.contracts.settings.Hello as hello
 use Rattle.amqp_core.specs.contracts.settings.ServerHello as server_hello
 use Rattle.amqp_core.specs.contracts.settings.Settings as settings
 use Rattle.amqp_core.proofs.heard.Cause.TheSendSync as cause_sent
@@ -24,11 +25,17 @@ client_hello_field_sent = search (table_field_sent, text_sent.the_send, sendable
 pub server_hello_field_sent : IsSend server_hello.the_field.row
 server_hello_field_sent = search (table_field_sent, sendable, crosses) depth 20 fits 5000
 
-pub hello_field_sent : IsSend hello.the_field.row
-hello_field_sent = search (client_hello_field_sent, server_hello_field_sent, sendable) depth 20
+pub client_hello_sent : IsSend client_hello.the_row
+client_hello_sent = search (client_hello_field_sent, sendable) depth 5
+
+pub kept_field_sent : IsSend kept.the_field.row
+kept_field_sent = search (client_hello_sent, server_hello_field_sent, sendable, crosses) depth 20
+
+pub kept_hello_field_sent : IsSend kept_hello.the_field.row
+kept_hello_field_sent = search (kept_field_sent, sendable) depth 20
 
 pub settings_field_sent : IsSend settings.the_field.row
-settings_field_sent = search (hello_field_sent, sendable) depth 20
+settings_field_sent = search (kept_hello_field_sent, sendable) depth 20
 
 pub connection_field_sent : IsSend connection.the_field.row
 connection_field_sent = search (settings_field_sent, stage_sent.the_field_send, channels_field_sent, sendable, crosses) depth 20
