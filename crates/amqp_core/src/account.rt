@@ -18,7 +18,7 @@ pub(crate) struct Account {
     pub(crate) took: Option<Note>,
     /// what was put in reply
     pub(crate) owed: Owed,
-    /// the parts of the event that the frame told, if it told one
+    /// the parts of the frame's event, if it has one
     pub(crate) parts: Option<EventParts>,
 }
 

@@ -353,7 +353,7 @@ impl<R: Role> End<R> {
         self.inner.outbox.shrink_to_fit();
     }
 
-    /// What the last close of the other end was about, of a channel or of the connection, that an event told of.
+    /// What the last close of the other end was about, of a channel or of the connection, that an event reported.
     pub fn closed_for(&self) -> Option<Cause>
         ensures { cause_there result ≡ (heard_in self.now).cause }
     {

@@ -1,4 +1,4 @@
-//! What an end tells whose events lend: the parts of a frame as they lie in its octets.
+//! The events of an end that lends: the parts of a frame as they lie in its octets.
 ghost use Rattle.std.specs.Prelude.{◌≡◌, IsTrue, Some};
 ghost use Rattle.amqp_method.specs.MethodRefView.{lent_call};
 ghost use Rattle.amqp_model.specs.End.Events.{reason_in};
@@ -20,9 +20,9 @@ pub struct ReasonRef<'a> {
     pub text: &'a [u8],
 }
 
-/// What an end tells of a frame that it takes, lent from the octets of the frame.
+/// What an end reports of a frame that it takes, lent from the octets of the frame.
 ///
-/// It tells each frame of a content as it comes: the method that begins it, its header, and the parts of its body. With
+/// Each frame of a content is an event as it comes: the method that begins it, its header, and the parts of its body. With
 /// the last of them the content is whole.
 #[derive(Clone, Copy)]
 pub enum EventRef<'a> {

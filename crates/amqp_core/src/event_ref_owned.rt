@@ -56,7 +56,7 @@ impl EventRef<'_> {
     /// The event that [`End`](crate::End) tells of the same frame.
     ///
     /// There is none of a content's frames ([`EventRef::Begins`], [`EventRef::Heads`], [`EventRef::Part`]), which `End`
-    /// tells together, and none of a reason above 255 octets, which no end lends.
+    /// reports together, and none of a reason above 255 octets, which no end lends.
     pub fn to_owned(self, alloc: Global) -> Result<Option<Event>, OutOfMemory>
         ensures { IfOk result (λ event. IsOwned (event_ref_view self.entry) (event_there event)) }
     {

@@ -370,7 +370,7 @@ impl Ledger {
         }
     }
 
-    /// What came of a piece, of which these octets were taken, and the item that it told.
+    /// What came of a piece, of which these octets were taken, and the item of its event.
     pub(crate) fn enter(&mut self, octets: &[u8], account: &Account, item: Option<Item>)
         requires { HasRoom self.old 3 (length octets.now) }
         ensures notes { notes_in self.new ≡ notes_in self.old ++ (option_to_list (note_there account.now.took)

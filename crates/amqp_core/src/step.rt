@@ -19,23 +19,23 @@ use crate::faults::CoreFault;
 use crate::verdict::Notice;
 use amqp_channel::{EventParts, Reading, Told};
 
-/// What a frame tells: of its channel, or of the connection.
+/// The event of a frame: of its channel, or of the connection.
 #[derive(Clone, Copy)]
 pub(crate) enum Report {
     OnChannel(Told),
     OfConnection(Notice),
 }
 
-/// What a frame tells.
+/// Where the event of a frame lies.
 #[derive(Clone, Copy)]
 pub(crate) enum Came<'a> {
     /// The frame lies in the piece, and this is its event.
     Told(EventRef<'a>),
-    /// It lies in the end's buffer, and this is told of it on its channel.
+    /// The frame lies in the end's buffer, and this is its event on its channel.
     Buffered(u16, Report),
 }
 
-/// What came of a piece: how many of its octets were taken, and what the frame tells that the last of them ends.
+/// What came of a piece: how many of its octets were taken, and the event of the frame that the last of them ends.
 #[derive(Clone, Copy)]
 pub struct Step<'a> {
     pub octets: usize,
@@ -59,7 +59,7 @@ impl<'a> Step<'a> {
     }
 }
 
-/// The event of a frame of a channel that tells of no message.
+/// The event of a frame of a channel that is no message.
 ///
 /// It stands apart, as few frames do: with it in line, what takes a frame would be too large to stand where it is called.
 #[inline(never)]
@@ -104,7 +104,7 @@ fn lend_told<'a>(number: u16, reading: Reading<'a>, told: Told) -> Option<EventR
     }
 }
 
-/// The event of a frame that tells of the connection.
+/// The event of a frame of the connection.
 fn lend_notice<'a>(number: u16, reading: Reading<'a>, notice: Notice) -> Option<EventRef<'a>>
     ensures { event_ref_there result ≡ notice_lent number (reading_view reading.entry) notice }
 {
@@ -167,7 +167,7 @@ pub(crate) fn step_of<'a>(
     }
 }
 
-/// What came of a frame of this channel in the piece, which says this and of which this is told.
+/// What came of a frame of this channel in the piece, which says this and has this event.
 pub(crate) fn step_reported<'a>(
     octets: usize,
     number: u16,
@@ -204,7 +204,7 @@ pub(crate) fn step_buffered<'a>(
     }
 }
 
-/// The same of a frame that passes: what is told of it is told of its channel.
+/// The same of a frame that passes: its event is of its channel.
 #[inline(always)]
 pub(crate) fn step_told<'a>(
     octets: usize,
@@ -222,7 +222,7 @@ pub(crate) fn step_told<'a>(
     }
 }
 
-/// What came of so many octets of the protocol header, which told this event or none.
+/// What came of so many octets of the protocol header, with this event or none.
 fn quiet_step<'a>(octets: usize, parts: Option<EventParts>) -> Step<'a>
     ensures octets { result.octets ≡ octets }
     ensures event { (given : Option Frame) → came_lent result.came given ≡ quiet_there (parts_there parts) }

@@ -1,4 +1,4 @@
-//! One end of a connection whose events lend: each frame of a content is told as it comes, and no octet of it is kept.
+//! One end of a connection whose events lend: each frame of a content is an event as it comes, and no octet of it is kept.
 ghost use Rattle.std.specs.Prelude.{◌≡◌, ◌≢◌, ◌<◌, ◌≤◌, true, [], length, IfOk};
 ghost use Rattle.std.specs.Borrow.{sem};
 ghost use Rattle.std.specs.Io.BufRead.{Rests};

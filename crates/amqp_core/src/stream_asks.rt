@@ -138,7 +138,7 @@ impl<R: Role> StreamEnd<R> {
         self.inner.outbox.shrink_to_fit();
     }
 
-    /// What the last close of the other end was about, of a channel or of the connection, that an event told of.
+    /// What the last close of the other end was about, of a channel or of the connection, that an event reported.
     pub fn closed_for(&self) -> Option<Cause>
         ensures { cause_there result ≡ (heard_in self.now).cause }
     {
@@ -224,7 +224,7 @@ impl<R: Role> StreamEnd<R> {
     }
 
     /// How many octets have come of the body of a content that isn't whole yet, in phase Running on an Open channel.
-    /// They were told, and are not kept.
+    /// They were reported as they came, and are not kept.
     pub fn came(&self, channel: u16) -> usize
         ensures came { result ≡ octets_gathered (endpoint_of self.now).end channel }
         ensures most { result ≤ (config_at self.now).max_body }

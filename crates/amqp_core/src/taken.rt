@@ -11,7 +11,7 @@ pub struct Taken {
     pub event: Option<Event>,
 }
 
-/// The same with an event that is lent, from the piece or from the end. Every whole frame tells one.
+/// The same with an event that is lent, from the piece or from the end. Every whole frame has one.
 #[derive(Clone, Copy)]
 pub struct TakenRef<'a> {
     pub octets: usize,

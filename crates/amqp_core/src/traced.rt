@@ -310,7 +310,7 @@ impl<R: Role> Traced<R> {
         self.end.forget_heard();
     }
 
-    /// What the last close of the other end was about that an event told of, as [`End::closed_for`].
+    /// What the last close of the other end was about that an event reported, as [`End::closed_for`].
     pub fn closed_for(&self) -> Option<Cause>
         ensures { cause_there result ≡ (heard_in self.now).cause }
     {

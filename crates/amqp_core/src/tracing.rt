@@ -74,7 +74,7 @@ fn is_out_of_memory(answer: &Result<(), CoreFault>) -> bool
     }
 }
 
-/// The item that a piece told, if it told one. Only a message takes memory.
+/// The item of a piece's event, if it has one. Only a message takes memory.
 fn item_told(
     answer: &Result<(), CoreFault>,
     parts: &Option<EventParts>,

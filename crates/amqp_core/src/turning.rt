@@ -44,7 +44,7 @@ impl Endpoint {
 }
 
 impl<R: Role> End<R> {
-    /// The same end, which lends what it takes from here on. A content under way goes on: its next part is told as it
+    /// The same end, which lends what it takes from here on. A content under way goes on: its next part is an event as it
     /// comes.
     pub fn into_stream(self) -> StreamEnd<R>
         ensures { TurnsLending self result }

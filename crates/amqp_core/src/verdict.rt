@@ -16,7 +16,7 @@ pub(crate) enum Fault {
     Fatal,
 }
 
-/// What a frame tells of the connection.
+/// The event of a frame of the connection.
 #[derive(Clone, Copy)]
 pub(crate) enum Notice {
     /// A step of the handshake, a heartbeat, or a close that crosses this end's own.
@@ -41,7 +41,7 @@ pub(crate) enum Notice {
 /// What the rules say of a frame that is the connection's. Of one that is its channel's, the channel's rules say it.
 #[derive(Clone, Copy)]
 pub(crate) enum Verdict {
-    /// The end goes on: what is told, where the connection stands then, and what the end owes.
+    /// The end goes on: the event, where the connection stands then, and what the end owes.
     Proceeds {
         notice: Notice,
         stage: Stage,

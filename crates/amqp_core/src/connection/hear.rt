@@ -15,7 +15,7 @@ use crate::heard::{Cause, Heard};
 use crate::verdict::{Notice, Verdict};
 use amqp_channel::{Reading, Told, Verdict as ChannelVerdict};
 
-/// Whether this tells of a close of the other end, of a channel.
+/// Whether this event is a close of the other end, of a channel.
 #[inline(always)]
 fn is_close_told(told: Told) -> bool
     ensures { result ≡ told_closes told }
@@ -36,7 +36,7 @@ fn is_close_told(told: Told) -> bool
     }
 }
 
-/// Whether this tells of a close of the other end, of the connection.
+/// Whether this event is a close of the other end, of the connection.
 fn is_close_noticed(notice: Notice) -> bool
     ensures { result ≡ notice_closes notice }
 {
@@ -54,7 +54,7 @@ fn is_close_noticed(notice: Notice) -> bool
     }
 }
 
-/// Whether the frame is a close of the other end, of its channel, of which is told.
+/// Whether the frame is a close of the other end, of its channel, that has an event.
 #[inline(always)]
 fn closes_on(verdict: ChannelVerdict) -> bool
     ensures { result ≡ closes_by (OnChannel verdict) }
@@ -77,7 +77,7 @@ impl Verdict {
         }
     }
 
-    /// Whether the frame is a close of the other end, of which is told.
+    /// Whether the frame is a close of the other end that has an event.
     fn closes(self) -> bool
         ensures { result ≡ closes_by (OnConnection self) }
     {

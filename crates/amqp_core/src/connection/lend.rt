@@ -40,7 +40,7 @@ use amqp_channel::{Agreed, Reading, Told, Verdict as ChannelVerdict};
 use amqp_frame::{FrameFaultKind, FrameRef, OVERHEAD};
 use amqp_outbox::Outbox;
 
-/// What is told of a frame of a channel, or the fault that is found with it.
+/// The event of a frame of a channel, or the fault that is found with it.
 #[inline(always)]
 #[tactic(auto, using(crate::proofs::LendLemmas::told_lends))]
 fn report_on(verdict: ChannelVerdict) -> Result<Report, CoreFault>
@@ -68,7 +68,7 @@ fn report_on(verdict: ChannelVerdict) -> Result<Report, CoreFault>
 }
 
 impl Verdict {
-    /// What is told of a frame of the connection, or the fault that is found with it.
+    /// The event of a frame of the connection, or the fault that is found with it.
     #[tactic(auto, using(crate::proofs::LendLemmas::notice_lends))]
     fn report(self) -> Result<Report, CoreFault>
         ensures says { (settings : Settings) (number : ℕ) (reading : readings.Reading) (whole : Option contents.Content)
@@ -252,7 +252,7 @@ impl Connection {
     }
 
     /// Takes a frame of a channel as [`Connection::receive_lent`] does, where that is done at once: it puts nothing,
-    /// and changes at most how far a content has come. The answer is what the frame tells. Otherwise nothing is done.
+    /// and changes at most how far a content has come. The answer is the frame's event. Otherwise nothing is done.
     #[inline(always)]
     pub(crate) fn pass_lent(
         &mut self,
@@ -286,7 +286,7 @@ impl Connection {
         }
     }
 
-    /// Takes a frame that says this. What the end owes is put, and what the frame tells is answered. Out of memory,
+    /// Takes a frame that says this. What the end owes is put, and the frame's event is answered. Out of memory,
     /// the end fails, and nothing is put.
     pub(crate) fn receive_lent(
         &mut self,

@@ -1,4 +1,4 @@
-//! A frame that an end takes: what the rules say of it (`rules`) is carried out. The state changes, the event is told, and
+//! A frame that an end takes: what the rules say of it (`rules`) is carried out. The state changes, the event is made, and
 //! what is owed is put.
 ghost use Rattle.std.specs.Prelude.{◌≡◌, ◌<◌, true, false, ℕ, [], map, Some, None, Option, IfOk, IfSome, IsOk, OnErr, OnOk};
 ghost use Rattle.amqp_model.specs.End.Channels.{Channel};
@@ -106,7 +106,7 @@ impl Verdict {
     }
 }
 
-/// What a frame tells of the connection, where the caller has room for it.
+/// The event of a frame of the connection, where the caller has room for it.
 #[inline(never)]
 fn tell_notice(
     alloc: Global,
@@ -147,7 +147,7 @@ fn tell_notice(
     Ok(())
 }
 
-/// What a frame of a channel tells, where the caller has room for it. The frame makes this content whole, if any.
+/// The event of a frame of a channel, where the caller has room for it. The frame makes this content whole, if any.
 #[inline(always)]
 fn tell_on(
     alloc: Global,
@@ -175,7 +175,7 @@ fn tell_on(
     Ok(())
 }
 
-/// What a frame of the connection tells, where the caller has room for it.
+/// The event of a frame that ends a state of the connection, where the caller has room for it.
 fn tell_of(
     alloc: Global,
     number: u16,
@@ -269,7 +269,7 @@ impl Connection {
         )
     }
 
-    /// Does what the rules say of a frame of a channel: the channel is left as it leaves it, its event is told, what is
+    /// Does what the rules say of a frame of a channel: the channel is left as it leaves it, its event is made, what is
     /// owed is put, and what may be asked for later is kept. Out of memory, nothing is put.
     fn carry_out_on(
         &mut self,
@@ -396,7 +396,7 @@ impl Connection {
         }
     }
 
-    /// The same, and its event is told.
+    /// The same, and its event is made.
     #[inline(always)]
     fn pass_told(
         &mut self,
