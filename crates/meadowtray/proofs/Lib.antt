@@ -1,12 +1,1 @@
-pub mod Begun
-pub mod Counting
-pub mod HeldContents
 pub mod KeptEnds
-pub mod LentHeaders
-pub mod LentPlaces
-pub mod PlacedPieces
-pub mod Sent
-pub mod SplitFrames
-pub mod Unwritten
-pub mod WrittenHeaders
-pub mod WrittenTables

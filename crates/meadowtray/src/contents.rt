@@ -1,14 +1,10 @@
 //! A content behind a handle of its own: what is to be written of it next, and the rest of its body.
+ghost use Rattle.amqp_calls.specs.Contents.{AddsTo, OctetsOf, OfContent, OpensContent, WritesBody, body_left};
 ghost use Rattle.std.specs.Prelude.{◌≡◌};
-ghost use Rattle.std.specs.Borrow.{sem};
-ghost use Rattle.std.specs.Io.BufRead.{Rests};
-ghost use Rattle.amqp_handle.specs.contracts.content.Content as content_row;
-ghost use Rattle.meadowtray.specs.Contents.{AddsTo, body_left, OctetsOf, OfContent, OpensContent, WritesBody, WritesOne};
 
-use crate::codec::statuses::{MISFIT, NOT_THERE};
-use crate::handles::status;
+use amqp_calls::contents::{left_of, lend_octets, with_added, write_part};
+use amqp_calls::handles::status;
 use amqp_handle::{Content, HandleFault, Held, Slot};
-use amqp_outbox::BodyFault;
 use std::alloc::Global;
 
 /// Opens a handle for contents.
@@ -21,16 +17,6 @@ pub extern "C" fn proved_content_open(slot: &mut Slot, alloc: Global) -> u32
         octets: Vec::new(alloc),
     };
     status(slot.open(alloc, Held::Content(content)))
-}
-
-/// How many octets of the body are to come.
-pub(crate) fn left_of(content: &Content) -> u64
-    ensures { result ≡ body_left content.now }
-{
-    match &content.writer {
-        Some(writer) => writer.left(),
-        None => 0,
-    }
 }
 
 /// How many octets are to come of the body of the content that was begun with a handle: 0 where none was.
@@ -48,15 +34,6 @@ pub extern "C" fn proved_content_left(slot: &mut Slot, left: &mut u64) -> u32
             0
         }
         Held::Splitter(_) => HandleFault::OtherKind.number(),
-    }
-}
-
-fn with_added(content: &Content, count: u64) -> u64
-    ensures { AddsTo content.now count result }
-{
-    match &content.writer {
-        Some(writer) => writer.add_to(count),
-        None => count,
     }
 }
 
@@ -78,24 +55,6 @@ pub extern "C" fn proved_content_add_to(slot: &mut Slot, count: &mut u64) -> u32
     }
 }
 
-/// Writes a part of a body.
-fn write_part(content: &mut Content, part: &[u8]) -> u32
-    ensures { WritesOne content.old part.now result content.new }
-{
-    let Some(writer) = &mut content.writer else {
-        return NOT_THERE;
-    };
-    if part.len() as u64 > writer.left() {
-        return MISFIT;
-    }
-    content.octets.clear();
-    match writer.write(part, &mut content.octets) {
-        Ok(()) => 0,
-        Err(BodyFault::TooLong) => MISFIT,
-        Err(BodyFault::OutOfMemory) => HandleFault::OutOfMemory.number(),
-    }
-}
-
 /// Writes a part of the body of the content that was begun with a handle, as `BodyWriter::write` does, in the place of
 /// the octets that are there.
 #[unsafe(no_mangle)]
@@ -109,14 +68,6 @@ pub extern "C" fn proved_content_write(slot: &mut Slot, part: &[u8]) -> u32
         Held::Content(content) => write_part(content, part),
         Held::Splitter(_) => HandleFault::OtherKind.number(),
     }
-}
-
-fn lend_octets<'a>(content: &'a mut Content) -> &'a [u8]
-    ensures octets { result.now ≡ content.old.octets.items }
-    ensures* after { sem 𝓛 (Rests content_row.the_row content.entry (λ new. new ≡ content.old)) }
-{
-    let content: &'a Content = content;
-    &content.octets
 }
 
 /// Lends the octets that are to be written next.

@@ -1,19 +1,10 @@
-//! Closing a handle, and the status of what can be wrong with it.
-ghost use Rattle.std.specs.Prelude.{◌≡◌, is_some};
-ghost use Rattle.meadowtray.specs.Handles.{Closes, status_of};
+//! Handles of every kind: whether one is open, and closing it.
+ghost use Rattle.amqp_calls.specs.Handles.{Closes};
+ghost use Rattle.std.specs.Prelude.{is_some, ◌≡◌};
 
-use amqp_handle::{HandleFault, Slot};
+use amqp_calls::handles::status;
+use amqp_handle::Slot;
 use std::alloc::Global;
-
-/// The status of an answer: 0 where nothing was wrong.
-pub(crate) fn status(answer: Result<(), HandleFault>) -> u32
-    ensures { result ≡ status_of answer }
-{
-    match answer {
-        Ok(()) => 0,
-        Err(fault) => fault.number(),
-    }
-}
 
 /// Closes a handle, and frees what it held.
 #[unsafe(no_mangle)]

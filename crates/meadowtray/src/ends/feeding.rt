@@ -1,127 +1,16 @@
-//! Octets fed to an end.
-ghost use Rattle.std.specs.Prelude.{◌≡◌, ◌<◌, length};
-ghost use Rattle.meadowtray.specs.EndNumbers.{core_status};
-ghost use Rattle.amqp_core.specs.Stream.StepView.{came_lent};
-ghost use Rattle.amqp_core.specs.Stream.View.{given_in};
-ghost use Rattle.meadowtray.specs.Feeding.{FeedsEnd, FeedsGathering, FeedsOne, GathersStep, TellsCode, number_at};
+//! Octets fed to the end of a handle, and the events that come of them.
+ghost use Rattle.amqp_calls.specs.Events.{FeedsShownEnd, ShowsEnd};
+ghost use Rattle.amqp_calls.specs.Feeding.{FeedsEnd};
+ghost use Rattle.amqp_calls.specs.LentBatches.{BatchesLent};
+ghost use Rattle.amqp_calls.specs.LentEvents.{FeedsLent};
 
-use crate::codec::statuses::NO_ROOM;
-use crate::ends::numbers::said_of;
-use amqp_core::{CoreFault, Role, Step, StreamEnd};
-use amqp_handle::{EndSlot, Gathering, HandleFault, HeldEnd, Kept, Place};
+use amqp_calls::ends::batching::{EventPlace, batch_one};
+use amqp_calls::ends::events::{SeenEvent, feed_shown, show_in};
+use amqp_calls::ends::feeding::{FedEnd, feed_one};
+use amqp_calls::ends::lending::lend_one;
+use amqp_handle::{EndSlot, HandleFault, HeldEnd};
 
-/// The status of an end's fault is this and the fault's number.
-const CORE_FAULTS: u32 = 400;
-
-const OUT_OF_MEMORY: u32 = 403;
-
-const FAILED: u32 = 404;
-
-/// What a piece gave, as it crosses to C.
-///
-/// With status 0, `taken` says how many octets were taken, and `kind` is that of the event, or 0 where none was told.
-/// After a fault of the other end, `code` is that of the close.
-#[repr(C)]
-pub struct FedEnd {
-    pub taken: usize,
-    pub code: u16,
-    pub kind: u8,
-}
-
-/// The status of a fault, and the code of the close that was put.
-pub(crate) fn tell_fault(fault: CoreFault, out: &mut FedEnd) -> u32
-    ensures status { result ≡ core_status fault }
-    ensures code { TellsCode fault out.new.code }
-    ensures taken { out.new.taken ≡ out.old.taken }
-{
-    match fault {
-        CoreFault::Peer(code) => {
-            out.code = code.number();
-            CORE_FAULTS + 1
-        }
-        CoreFault::Fatal => CORE_FAULTS + 2,
-        CoreFault::OutOfMemory => CORE_FAULTS + 3,
-        CoreFault::Failed => CORE_FAULTS + 4,
-        CoreFault::Closed => CORE_FAULTS + 5,
-    }
-}
-
-/// The number of what is said at a place, 0 where there is no such place.
-#[inline(always)]
-fn number_at(places: &[Place], place: usize) -> u8
-    ensures { result ≡ number_at places.now place }
-{
-    if place < places.len() {
-        return said_of(&places[place].said);
-    }
-    0
-}
-
-/// Gathers what came of a piece, and tells what is said at a place that is there.
-#[inline(always)]
-fn gather<R: Role>(
-    end: &StreamEnd<R>,
-    step: Step<'_>,
-    gathering: &mut Gathering,
-    place: usize,
-    out: &mut FedEnd,
-) -> u32
-    requires { place < length gathering.old.places.items }
-    ensures { GathersStep (came_lent step.entry.came (given_in end.now)) gathering.old place step.entry.octets result
-        out.new gathering.new }
-{
-    let alloc = *gathering.places.allocator();
-    match gathering.take(alloc, place, end.event(step)) {
-        Ok(()) => {
-            out.taken = step.octets;
-            out.kind = number_at(&gathering.places, place);
-            0
-        }
-        Err(_) => {
-            gathering.is_lost = true;
-            OUT_OF_MEMORY
-        }
-    }
-}
-
-/// Feeds an end that gathers so.
-fn feed<R: Role>(
-    end: &mut StreamEnd<R>,
-    gathering: &mut Gathering,
-    place: usize,
-    piece: &[u8],
-    out: &mut FedEnd,
-) -> u32
-    ensures { FeedsGathering end.old gathering.old place piece.now result out.new end.new gathering.new }
-{
-    if place >= gathering.places.len() {
-        return NO_ROOM;
-    }
-    if gathering.is_lost {
-        return FAILED;
-    }
-    match end.advance(piece) {
-        Ok(step) => gather(end, step, gathering, place, out),
-        Err(fault) => tell_fault(fault, out),
-    }
-}
-
-/// Feeds an end, if it gathers.
-pub(crate) fn feed_one<R: Role>(
-    kept: &mut Kept<StreamEnd<R>>,
-    place: usize,
-    piece: &[u8],
-    out: &mut FedEnd,
-) -> u32
-    ensures { FeedsOne kept.old place piece.now result out.new kept.new }
-{
-    match &mut kept.gathering {
-        Some(gathering) => feed(&mut kept.end, gathering, place, piece, out),
-        None => HandleFault::OtherKind.number(),
-    }
-}
-
-/// Feeds the end of a handle that gathers, and says what it tells at a place, if the handle has that place.
+/// Feeds the end of a handle that gathers, and reports its event at a place, if the handle has that place.
 #[unsafe(no_mangle)]
 pub extern "C" fn proved_end_feed(
     slot: &mut EndSlot,
@@ -137,5 +26,84 @@ pub extern "C" fn proved_end_feed(
     match slot.held() {
         HeldEnd::Client(kept) => feed_one(kept, place, piece, out),
         HeldEnd::Server(kept) => feed_one(kept, place, piece, out),
+    }
+}
+
+/// Feeds the end of a handle that gathers at its first place, and shows what is said there.
+#[unsafe(no_mangle)]
+pub extern "C" fn proved_end_feed_shown<'a>(
+    slot: &'a mut EndSlot,
+    piece: &[u8],
+    fed: &mut FedEnd,
+    out: &mut SeenEvent<'a>,
+) -> u32
+    ensures { FeedsShownEnd slot.old.value piece.now result fed.new out.new }
+{
+    if !slot.is_open() {
+        return HandleFault::NotOpen.number();
+    }
+    match slot.held() {
+        HeldEnd::Client(kept) => feed_shown(kept, piece, fed, out),
+        HeldEnd::Server(kept) => feed_shown(kept, piece, fed, out),
+    }
+}
+
+/// Shows what the last feed at a place of a handle said there. What an event of its kind hasn't stays as it is.
+#[unsafe(no_mangle)]
+pub extern "C" fn proved_end_event<'a>(
+    slot: &'a mut EndSlot,
+    place: usize,
+    out: &mut SeenEvent<'a>,
+) -> u32
+    ensures { ShowsEnd slot.old.value place result out.new }
+{
+    if !slot.is_open() {
+        return HandleFault::NotOpen.number();
+    }
+    match slot.held() {
+        HeldEnd::Client(kept) => show_in(kept, place, out),
+        HeldEnd::Server(kept) => show_in(kept, place, out),
+    }
+}
+
+/// Feeds the end of a handle whose events lend, as `StreamEnd::feed_ref` does, and shows the event. What an event of
+/// its kind hasn't stays as it is.
+#[unsafe(no_mangle)]
+pub extern "C" fn proved_end_feed_lent<'a>(
+    slot: &'a mut EndSlot,
+    piece: &'a [u8],
+    fed: &mut FedEnd,
+    out: &mut SeenEvent<'a>,
+) -> u32
+    ensures { FeedsLent slot.old.value piece.now result fed.new out.new }
+{
+    if !slot.is_open() {
+        return HandleFault::NotOpen.number();
+    }
+    match slot.held() {
+        HeldEnd::Client(kept) => lend_one(kept, piece, fed, out),
+        HeldEnd::Server(kept) => lend_one(kept, piece, fed, out),
+    }
+}
+
+/// Feeds the end of a handle whose events lend with a piece, as `StreamEnd::feed_ref` does again and again, and shows
+/// each event in a place. It stops where the piece ends, where no place is left, at a fault, and after the first frame
+/// that doesn't lie in the piece.
+#[unsafe(no_mangle)]
+pub extern "C" fn proved_end_lend_batch<'a>(
+    slot: &'a mut EndSlot,
+    piece: &'a [u8],
+    places: &mut [EventPlace<'a>],
+    fed: &mut FedEnd,
+    count: &mut usize,
+) -> u32
+    ensures { BatchesLent slot.old.value piece.now places.old result fed.new count.new places.new }
+{
+    if !slot.is_open() {
+        return HandleFault::NotOpen.number();
+    }
+    match slot.held() {
+        HeldEnd::Client(kept) => batch_one(kept, piece, places, fed, count),
+        HeldEnd::Server(kept) => batch_one(kept, piece, places, fed, count),
     }
 }

@@ -4,18 +4,6 @@
 
 mod answers;
 mod asking;
-mod batching;
-mod beginning;
-mod blaming;
-mod closing;
-mod controlling;
-mod events;
 mod feeding;
-mod hearing;
-mod lending;
-mod messages;
-mod numbers;
 mod opening;
 mod output;
-mod sending;
-mod slices;

@@ -1,6 +1,6 @@
 use Rattle.std.proofs.Common.{Some}
 use Rattle.amqp_handle.specs.declared.kept.HeldEnd.TheVariants.{Client, Server}
-use Rattle.meadowtray.specs.EndAsks.{AsksEnd}
+use Rattle.amqp_calls.specs.EndAsks.{AsksEnd}
 use Rattle.meadowtray.proofs.KeptEnds.{of_held}
 use Rattle.meadowtray.proofs.ends.asking.proved_end_ask.Goals as goal
 

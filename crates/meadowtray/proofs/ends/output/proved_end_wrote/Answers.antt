@@ -1,6 +1,6 @@
 use Rattle.std.proofs.Common.{Some}
 use Rattle.amqp_handle.specs.declared.kept.HeldEnd.TheVariants.{Client, Server}
-use Rattle.meadowtray.specs.EndAnswers.{WritesEnd}
+use Rattle.amqp_calls.specs.EndAnswers.{WritesEnd}
 use Rattle.meadowtray.proofs.KeptEnds.{of_held}
 use Rattle.meadowtray.proofs.ends.output.proved_end_wrote.Goals as goal
 

@@ -1,0 +1,9 @@
+use Rattle.std.proofs.Common.{◌≡◌, ◌+◌, length}
+use Rattle.amqp_value.specs.Lent.{items_left}
+use Rattle.amqp_calls.proofs.codec.tables.count_items.Given as goal
+
+abbrev pub invariant-loop : goal.invariant-loop
+invariant-loop l =
+    (goal.iterator-loop).can_next l.iterator'
+    × (goal.iterator-loop).is_finite l.iterator'
+    × (l.count + length (items_left l.iterator') ≡ length (items_left l.items))

@@ -1,0 +1,10 @@
+use Rattle.std.proofs.Common.{refl}
+use Rattle.amqp_method.specs.MethodView.{method_view}
+use Rattle.amqp_calls.specs.BegunContents.BeginsOne.{read, unread}
+use Rattle.amqp_calls.proofs.ends.beginning.begin_one.Goals as goal
+
+pub returns-in-Ok : goal.returns-in-Ok
+returns-in-Ok g c = read (method_view c.in-Ok.made) c.in-Ok.ensures.ok c.begin_after.ensures
+
+pub returns-in-Err : goal.returns-in-Err
+returns-in-Err g c = unread c.in-Err.fault c.in-Err.ensures.err c.number.ensures refl refl

@@ -1,5 +1,0 @@
-use Rattle.meadowtray.proofs.Begun.{server_begins}
-use Rattle.meadowtray.proofs.ends.opening.make_server.Goals as goal
-
-pub returns-in-Ok-begin-clause-ok : goal.returns-in-Ok-begin-clause-ok
-returns-in-Ok-begin-clause-ok c = server_begins c.args.given.now c.in-Ok.hello c.in-Ok-begin.end c.in-Ok.ensures.ok c.in-Ok-begin.ensures.ok
