@@ -164,6 +164,12 @@ pub record Finishes (old : Gathering) (place channel : ℕ) (new : Gathering) : 
   pub counted : counts new ≡ without old (Some old.at_hand)
   pub mark : new.is_lost ≡ old.is_lost
 
+-- the last part of the body of the content on the channel comes, and then it is whole
+pub record AddedLast (old : Gathering) (place channel : ℕ) (part : List ℕ) (new : Gathering) : Type 0 where
+  pub between : Gathering
+  pub added : Added old channel part between
+  pub finishes : Finishes between place channel new
+
 -- it is, or nothing is said
 abbrev pub FinishesIf : (whole : Bool) → (old : Gathering) → (place channel : ℕ) → (new : Gathering) → Type 0
 FinishesIf true old place channel new = Finishes old place channel new

@@ -6,7 +6,7 @@
 ghost use Rattle.std.specs.Prelude.{◌≡◌, ◌<◌, ◌++◌, [], ℕ, None, false, length, OnOk};
 ghost use Rattle.std.specs.HashMap.{IsUnchanged};
 ghost use Rattle.amqp_core.specs.Stream.EventRefView.{event_ref_there, event_ref_view};
-ghost use Rattle.amqp_handle.specs.Gathered.{coming, head_length, Added, Begun, EndsWith, Finishes, FinishesIf, Gathers, GathersEvent, Headed, IsAside, IsAtHand, IsKeptAside, IsTakenAside, LetsAllGo, LetsGo, SaysAt, SaysMethod, SaysOwned, TakesOther};
+ghost use Rattle.amqp_handle.specs.Gathered.{coming, head_length, Added, AddedLast, Begun, EndsWith, Finishes, FinishesIf, Gathers, GathersEvent, Headed, IsAside, IsAtHand, IsKeptAside, IsTakenAside, LetsAllGo, LetsGo, SaysAt, SaysMethod, SaysOwned, TakesOther};
 
 use amqp_channel::Event;
 use amqp_core::EventRef;
@@ -274,6 +274,35 @@ impl Gathering {
         mem::swap(&mut there.parts, &mut self.at_hand);
     }
 
+    /// The last part of its body comes, and it is said at a place.
+    ///
+    /// The octets that are there change places first: what was just written isn't read again so soon. Out of memory,
+    /// nothing is said there.
+    #[inline(never)]
+    fn add_last(
+        &mut self,
+        alloc: Global,
+        place: usize,
+        channel: u16,
+        part: &[u8],
+    ) -> Result<(), OutOfMemory>
+        requires { place < length self.old.places.items }
+        ensures { OnOk result (AddedLast self.old place channel part.now self.new) }
+    {
+        self.turn_to(alloc, channel)?;
+        self.heads = self.heads.saturating_sub(self.at_hand.head_length());
+        self.current = None;
+        let there = &mut self.places[place];
+        there.said = Said::Nothing;
+        mem::swap(&mut there.parts, &mut self.at_hand);
+        append(&mut there.parts.body, part)?;
+        there.said = Said::Message(channel, true);
+        let length = there.parts.body.len();
+        self.bodies = self.bodies.saturating_add(part.len());
+        self.bodies = self.bodies.saturating_sub(length);
+        Ok(())
+    }
+
     /// Says so if it is whole, and else nothing.
     #[inline(always)]
     fn finish_if(&mut self, whole: bool, place: usize, channel: u16)
@@ -382,7 +411,7 @@ impl Gathering {
 
     /// Says an event at a place, a content once it is whole.
     #[inline(always)]
-    fn take_event(
+    pub fn take_event(
         &mut self,
         alloc: Global,
         place: usize,
@@ -393,8 +422,12 @@ impl Gathering {
     {
         match event {
             EventRef::Part(channel, part, whole) => {
+                if whole {
+                    self.add_last(alloc, place, channel, part)?;
+                    return Ok(());
+                }
                 self.add(alloc, channel, part)?;
-                self.finish_if(whole, place, channel);
+                self.say(place, Said::Nothing);
                 Ok(())
             }
             EventRef::Begins(channel, method) => {
