@@ -1,6 +1,6 @@
 -- What a feed of an end behind a handle does that gathers. Read before: what a feed of a lending end does (`Lends` of
 -- `amqp_core`), and what is gathered of its events (`Gathered` of `amqp_handle`).
-use Rattle.std.specs.Prelude.{Box, ◌≡◌, ◌≤◌, ℕ, List, length, true, Option, Some, None, Result, Ok, Err}
+use Rattle.std.specs.Prelude.{Box, ◌≡◌, ◌≤◌, ℕ, List, length, true, Option, Some, None, Ok, Err}
 use Rattle.std.specs.Prelude.{slice_get}
 use Rattle.std.specs.Global.{Global}
 use Rattle.amqp_model.specs.End.Closes.{number_of}

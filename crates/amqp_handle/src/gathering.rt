@@ -449,7 +449,7 @@ impl Gathering {
     }
 
     /// Says at a place what an end tells, if it tells something. Out of memory, what is said there is not told.
-    #[inline(always)]
+    #[inline(never)]
     pub fn take(
         &mut self,
         alloc: Global,

@@ -1,6 +1,7 @@
 //! Octets fed to an end.
-ghost use Rattle.std.specs.Prelude.{◌≡◌, ◌<◌, length};
+ghost use Rattle.std.specs.Prelude.{◌≡◌, ◌<◌, length, OnOk};
 ghost use Rattle.amqp_calls.specs.EndNumbers.{core_status};
+ghost use Rattle.amqp_handle.specs.Gathered.{Gathers};
 ghost use Rattle.amqp_core.specs.Stream.StepView.{came_lent};
 ghost use Rattle.amqp_core.specs.Stream.View.{given_in};
 ghost use Rattle.amqp_calls.specs.Feeding.{FeedsGathering, FeedsOne, GathersStep, TellsCode, number_at};
@@ -8,7 +9,7 @@ ghost use Rattle.amqp_calls.specs.Feeding.{FeedsGathering, FeedsOne, GathersStep
 use crate::codec::statuses::NO_ROOM;
 use crate::ends::numbers::said_of;
 use amqp_core::{CoreFault, Role, Step, StreamEnd};
-use amqp_handle::{Gathering, HandleFault, Kept, Place};
+use amqp_handle::{Gathering, HandleFault, Kept, OutOfMemory, Place};
 
 /// The status of an end's fault is this and the fault's number.
 const CORE_FAULTS: u32 = 400;
@@ -57,6 +58,24 @@ fn number_at(places: &[Place], place: usize) -> u8
     0
 }
 
+/// Gathers what came of a piece: the event of a frame that lies in it is known apart from the end.
+#[inline(always)]
+fn take<R: Role>(
+    end: &StreamEnd<R>,
+    step: Step<'_>,
+    gathering: &mut Gathering,
+    place: usize,
+) -> Result<(), OutOfMemory>
+    requires { place < length gathering.old.places.items }
+    ensures { OnOk result (Gathers (came_lent step.entry.came (given_in end.now)) gathering.old place gathering.new) }
+{
+    let alloc = *gathering.places.allocator();
+    match step.in_piece() {
+        Some(event) => gathering.take_event(alloc, place, event),
+        None => gathering.take(alloc, place, end.event(step)),
+    }
+}
+
 /// Gathers what came of a piece, and reports the event at a place that is there.
 #[inline(always)]
 fn gather<R: Role>(
@@ -70,8 +89,7 @@ fn gather<R: Role>(
     ensures { GathersStep (came_lent step.entry.came (given_in end.now)) gathering.old place step.entry.octets result
         out.new gathering.new }
 {
-    let alloc = *gathering.places.allocator();
-    match gathering.take(alloc, place, end.event(step)) {
+    match take(end, step, gathering, place) {
         Ok(()) => {
             out.taken = step.octets;
             out.kind = number_at(&gathering.places, place);
