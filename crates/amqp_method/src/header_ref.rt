@@ -40,7 +40,6 @@ impl<'a> HeaderRef<'a> {
 
     /// The header that a payload encodes. The faults are those of [`read_header`](crate::read_header), and no memory is
     /// taken.
-    #[inline(always)]
     pub fn new(payload: &'a [u8]) -> Result<HeaderRef<'a>, MethodFault>
         ensures exact { Equals lent_header result (header_at payload.now) }
         ensures payload { IfOk result (λ h. lent_header_payload h ≡ payload.now) }
