@@ -1,4 +1,4 @@
-//! A content behind a handle of its own: what is to be written of it next, and the rest of its body.
+//! A content that a handle of its own holds: what is to be written of it next, and the rest of its body.
 ghost use Rattle.std.specs.Prelude.{◌≡◌};
 ghost use Rattle.std.specs.Borrow.{sem};
 ghost use Rattle.std.specs.Io.BufRead.{Rests};

@@ -1,4 +1,4 @@
-//! A splitter behind a handle.
+//! A splitter that a handle holds.
 ghost use Rattle.std.specs.Prelude.{◌≡◌, ◌<◌, true, false, [], Some, is_some};
 ghost use Rattle.std.specs.Borrow.{sem};
 ghost use Rattle.amqp_handle.specs.declared.held.Held.TheVariants as held;

@@ -1,4 +1,4 @@
-//! An end behind a handle.
+//! An end that a handle holds.
 use crate::gathering::Gathering;
 use amqp_core::{Client, Server, StreamEnd};
 

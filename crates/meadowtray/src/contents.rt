@@ -1,4 +1,4 @@
-//! A content behind a handle of its own: what is to be written of it next, and the rest of its body.
+//! A content that a handle of its own holds: what is to be written of it next, and the rest of its body.
 ghost use Rattle.amqp_calls.specs.Contents.{AddsTo, OctetsOf, OfContent, OpensContent, WritesBody, body_left};
 ghost use Rattle.std.specs.Prelude.{◌≡◌};
 

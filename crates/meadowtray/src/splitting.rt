@@ -1,4 +1,4 @@
-//! A splitter behind a handle.
+//! A splitter that a handle holds.
 ghost use Rattle.amqp_calls.specs.SplitPieces.{SplitsHandle};
 ghost use Rattle.amqp_calls.specs.Splitters.{FeedsSplitter, OfSplitter, OpensSplitter, SetsLimit};
 ghost use Rattle.std.specs.Prelude.{length, ◌≡◌};
