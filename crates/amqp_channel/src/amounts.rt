@@ -96,12 +96,12 @@ impl Channel {
         ensures small { result.body < 2 ^ 63 }
     {
         match self {
-            Channel::Free => Amount::none(),
-            Channel::Opening => Amount::none(),
-            Channel::Closing => Amount::none(),
             Channel::Open(life) => life.amount(),
-            Channel::LentHeader(_, _) => Amount::none(),
-            Channel::LentBody { .. } => Amount::none(),
+            Channel::Free
+            | Channel::Opening
+            | Channel::Closing
+            | Channel::LentHeader(_, _)
+            | Channel::LentBody { .. } => Amount::none(),
         }
     }
 }

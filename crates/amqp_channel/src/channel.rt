@@ -8,11 +8,10 @@
 //!
 //! The rules only look. What a frame changes is done after, by its event: by an end that gathers contents, or by
 //! one that lends them as they come.
-ghost use Rattle.std.specs.Prelude.{◌≡◌, ◌<◌, ◌≤◌, ◌==◌, true, false, ℕ, List, IfOk, IfSome, IsOk, None, Some, MatchOption, OnOk, OnErr};
+ghost use Rattle.std.specs.Prelude.{◌≡◌, ◌<◌, ◌≤◌, ◌==◌, true, false, ℕ, List, IfOk, IsOk, None, Some, MatchOption, OnOk, OnErr};
 ghost use Rattle.amqp_method.specs.HeaderRefView.{lent_header};
 ghost use Rattle.amqp_method.specs.MethodRefView.{lent_call};
 ghost use Rattle.amqp_method.specs.MethodView.{method_view};
-ghost use Rattle.amqp_model.specs.Wire.Methods.{carries_content};
 ghost use Rattle.amqp_method.specs.Requests.{is_request};
 ghost use Rattle.amqp_model.specs.End.Channels as model;
 ghost use Rattle.amqp_model.specs.End.Channels.{Closing, Free, Open, Opening, new_life};
@@ -24,19 +23,18 @@ ghost use Rattle.amqp_model.specs.Wire.Notes.{Client, Role};
 ghost use Rattle.amqp_channel.specs.declared.verdict.Verdict.TheVariants.{Proceeds};
 ghost use Rattle.amqp_model.specs.Wire.Readings as readings;
 ghost use Rattle.amqp_model.specs.Wire.Readings.{BodyOf, Calls, HeaderOf, MalformedHeader, kind_of};
-ghost use Rattle.amqp_channel.specs.Channel.ChannelView.{channel_view, contained, is_lent, IsFree, IsGathered, IsIdleOpen, IsOpen, IsReadOpen, content_on};
-ghost use Rattle.amqp_channel.specs.Contents.ContentView.{content_there, content_view};
+ghost use Rattle.amqp_channel.specs.Channel.ChannelView.{channel_view, is_lent, IsFree, IsOpen, content_on};
+ghost use Rattle.amqp_channel.specs.Contents.ContentView.{content_there};
 ghost use Rattle.amqp_channel.specs.Channel.LifeView.{life_on, IsOther};
 ghost use Rattle.amqp_channel.specs.Contents.GatheringView.{progress_view};
-ghost use Rattle.amqp_channel.specs.ReadingView.{header_said, reading_view, unread_view};
+ghost use Rattle.amqp_channel.specs.ReadingView.{reading_view, unread_view};
 ghost use Rattle.amqp_channel.specs.Roles.{role_of};
 ghost use Rattle.amqp_channel.specs.Channels.Used.{is_closing_at, is_open_at};
-ghost use Rattle.amqp_channel.specs.Verdict.Passing.{Passes};
-ghost use Rattle.amqp_channel.specs.Verdict.VerdictView.{continued_with, goes_on, handed_out, headed_with, left_by, told_on, whole_now, whole_of, Drops, Fits, FitsTold, IsDiscarded, IsHeaderDue, IsPart, IsWhole, Rules, RulesByState, SentOnChannel};
+ghost use Rattle.amqp_channel.specs.Verdict.VerdictView.{goes_on, handed_out, left_by, told_on, whole_now, whole_of, Drops, Fits, FitsTold, IsDiscarded, IsPart, Rules, RulesByState, SentOnChannel};
 
 use crate::codes::CloseCode;
 use crate::gathering::Gathering;
-use crate::life::{Life, judge_awaited, judge_part, passes_content};
+use crate::life::{Life, judge_awaited, judge_part};
 use crate::progress::Progress;
 use crate::reading::{Reading, Unread};
 use crate::side::Side;
@@ -246,121 +244,6 @@ fn judge_inside(site: Site, method: MethodRef<'_>) -> Verdict
 }
 
 impl Channel {
-    /// The header of a content that is lent, where nothing changes beside the content.
-    #[inline(always)]
-    fn passes_header(&self, site: Site, header: HeaderRef<'_>) -> Option<Told>
-        requires above { 0 < site.number }
-        requires within { site.number ≤ site.channel_max }
-        ensures { IfSome result (Passes site (channel_view self.now)
-            (HeaderOf (lent_header header.entry).body_size (lent_header header.entry).properties)) }
-    {
-        match self {
-            Channel::LentHeader(kind, _) => {
-                passes_content(site.side, *kind, judge_awaited(site, header))
-            }
-            Channel::Free
-            | Channel::Opening
-            | Channel::Closing
-            | Channel::Open(_)
-            | Channel::LentBody { .. } => None,
-        }
-    }
-
-    /// A part of the body of a content that is lent, where nothing changes beside the content.
-    #[inline(always)]
-    fn passes_body(&self, site: Site, octets: &[u8]) -> Option<Told>
-        requires above { 0 < site.number }
-        requires within { site.number ≤ site.channel_max }
-        ensures { IfSome result (Passes site (channel_view self.now) (BodyOf octets.now)) }
-    {
-        match self {
-            Channel::LentBody {
-                kind,
-                size,
-                came,
-                ..
-            } => passes_content(site.side, *kind, judge_part(site, *size, *came, octets)),
-            Channel::Free
-            | Channel::Opening
-            | Channel::Closing
-            | Channel::Open(_)
-            | Channel::LentHeader(_, _) => None,
-        }
-    }
-
-    /// A method that has nothing to do with requests, where no content is under way.
-    #[inline(always)]
-    pub(crate) fn passes_method(&self, site: Site, method: MethodRef<'_>) -> Option<Told>
-        requires above { 0 < site.number }
-        requires within { site.number ≤ site.channel_max }
-        ensures passes { IfSome result (Passes site (channel_view self.now) (Calls (lent_call method.entry))) }
-        ensures idle { IfSome result (λ told. IsIdleOpen self.now) }
-    {
-        match self {
-            Channel::Open(life) => life.passes(site, method),
-            Channel::Free
-            | Channel::Opening
-            | Channel::Closing
-            | Channel::LentHeader(_, _)
-            | Channel::LentBody { .. } => None,
-        }
-    }
-
-    /// The event of a frame that changes at most how far a content that is lent has come: a method that has nothing to do
-    /// with requests, or a frame of the content under way. Most frames do no more.
-    #[inline(always)]
-    pub(crate) fn passes(&self, site: Site, reading: Reading<'_>) -> Option<Told>
-        requires above { 0 < site.number }
-        requires within { site.number ≤ site.channel_max }
-        ensures { IfSome result (Passes site (channel_view self.now) (reading_view reading.entry)) }
-    {
-        match reading {
-            Reading::Method(method) => self.passes_method(site, method),
-            Reading::Header(header) => self.passes_header(site, header),
-            Reading::Body(octets) => self.passes_body(site, octets),
-            Reading::UnknownMethod => None,
-            Reading::MalformedMethod => None,
-            Reading::MalformedHeader => None,
-            Reading::Heartbeat(_) => None,
-        }
-    }
-
-    /// The header of a content that is gathered, where nothing changes beside the content.
-    #[inline(always)]
-    pub(crate) fn passes_gathered_header(&self, site: Site, header: HeaderRef<'_>) -> Option<Told>
-        requires above { 0 < site.number }
-        requires within { site.number ≤ site.channel_max }
-        ensures { IfSome result (Passes site (channel_view self.now)
-            (HeaderOf (lent_header header.entry).body_size (lent_header header.entry).properties)) }
-    {
-        match self {
-            Channel::Open(life) => life.passes_header(site, header),
-            Channel::Free
-            | Channel::Opening
-            | Channel::Closing
-            | Channel::LentHeader(_, _)
-            | Channel::LentBody { .. } => None,
-        }
-    }
-
-    /// A part of the body of a content that is gathered, where nothing changes beside the content.
-    #[inline(always)]
-    pub(crate) fn passes_gathered_body(&self, site: Site, octets: &[u8]) -> Option<Told>
-        requires above { 0 < site.number }
-        requires within { site.number ≤ site.channel_max }
-        ensures passes { IfSome result (Passes site (channel_view self.now) (BodyOf octets.now)) }
-        ensures read { IfSome result (λ told. IsReadOpen self.now) }
-    {
-        match self {
-            Channel::Open(life) => life.passes_body(site, octets),
-            Channel::Free
-            | Channel::Opening
-            | Channel::Closing
-            | Channel::LentHeader(_, _)
-            | Channel::LentBody { .. } => None,
-        }
-    }
-
     /// A method, by the state of the channel.
     ///
     /// What a call out of line answers is bound before it is answered: the call writes it to a place of its own, and what
@@ -626,125 +509,6 @@ impl Channel {
             Verdict::Proceeds(told, _) => Channel::begun_with(told),
             Verdict::RefusesContent => Channel::Closing,
             Verdict::Faults(_) => Channel::Free,
-        }
-    }
-
-    /// A method that passes begins a content. Out of memory, none is begun.
-    #[inline(always)]
-    pub(crate) fn begin_one_way(
-        &mut self,
-        alloc: Global,
-        method: MethodRef<'_>,
-    ) -> Result<(), OutOfMemory>
-        requires idle { IsIdleOpen self.old }
-        requires follows { carries_content (lent_call method) ≡ true }
-        ensures ok { OnOk result (channel_view self.new ≡ contained (HeaderDue (lent_call method.entry))
-            (channel_view self.old)) }
-        ensures err { OnErr result (channel_view self.new ≡ channel_view self.old) }
-        ensures gathers { IsGathered self.new }
-        ensures was { IsGathered self.old }
-    {
-        match self {
-            Channel::Open(life) => life.begin_one_way(alloc, method),
-            Channel::Free
-            | Channel::Opening
-            | Channel::Closing
-            | Channel::LentHeader(_, _)
-            | Channel::LentBody { .. } => unreachable!(),
-        }
-    }
-
-    /// A header that passes, after which the body is due. Out of memory, it is due still.
-    #[inline(always)]
-    pub(crate) fn head_one_way(
-        &mut self,
-        alloc: Global,
-        side: Side,
-        header: HeaderRef<'_>,
-    ) -> Result<(), OutOfMemory>
-        requires gathers { is_lent self.old ≡ false }
-        requires due { IsHeaderDue (content_on (channel_view self.old)) }
-        ensures ok { OnOk result (channel_view self.new ≡ contained (headed_with (header_said header.entry)
-            (content_on (channel_view self.old))) (channel_view self.old)) }
-        ensures err { OnErr result (channel_view self.new ≡ channel_view self.old) }
-        ensures gathers { IsGathered self.new }
-        ensures was { IsGathered self.old }
-    {
-        match self {
-            Channel::Open(life) => life.keep_header(alloc, side, header),
-            Channel::Free
-            | Channel::Opening
-            | Channel::Closing
-            | Channel::LentHeader(_, _)
-            | Channel::LentBody { .. } => unreachable!(),
-        }
-    }
-
-    /// A header that passes and that makes a content whole. Out of memory, it is due still.
-    #[inline(always)]
-    pub(crate) fn finish_header_one_way(
-        &mut self,
-        alloc: Global,
-        header: HeaderRef<'_>,
-    ) -> Result<Box<Content>, OutOfMemory>
-        requires gathers { is_lent self.old ≡ false }
-        requires whole { IsWhole (whole_now (channel_view self.old) (header_said header)) }
-        ensures whole { IfOk result (λ content. whole_now (channel_view self.old) (header_said header.entry)
-            ≡ Some (content_view content.value)) }
-        ensures ok { OnOk result (channel_view self.new ≡ contained Nothing (channel_view self.old)) }
-        ensures err { OnErr result (channel_view self.new ≡ channel_view self.old) }
-        ensures gathers { IsGathered self.new }
-        ensures was { IsGathered self.old }
-    {
-        match self {
-            Channel::Open(life) => life.finish_header_one_way(alloc, header),
-            Channel::Free
-            | Channel::Opening
-            | Channel::Closing
-            | Channel::LentHeader(_, _)
-            | Channel::LentBody { .. } => unreachable!(),
-        }
-    }
-
-    /// A part of a body that passes, after which more is due. Out of memory, it is due still.
-    #[inline(always)]
-    pub(crate) fn fill_one_way(&mut self, side: Side, octets: &[u8]) -> Result<(), OutOfMemory>
-        requires { IsReadOpen self.old }
-        ensures ok { OnOk result (channel_view self.new ≡ contained (continued_with (BodyOf octets.now)
-            (content_on (channel_view self.old))) (channel_view self.old)) }
-        ensures err { OnErr result (channel_view self.new ≡ channel_view self.old) }
-        ensures gathers { IsGathered self.new }
-        ensures was { IsGathered self.old }
-    {
-        match self {
-            Channel::Open(life) => life.fill(side, octets),
-            Channel::Free
-            | Channel::Opening
-            | Channel::Closing
-            | Channel::LentHeader(_, _)
-            | Channel::LentBody { .. } => unreachable!(),
-        }
-    }
-
-    /// A part of a body that passes and that makes a content whole. Out of memory, it is due still.
-    #[inline(always)]
-    pub(crate) fn finish_one_way(&mut self, octets: &[u8]) -> Result<Box<Content>, OutOfMemory>
-        requires read { IsReadOpen self.old }
-        requires whole { IsWhole (whole_now (channel_view self.old) (BodyOf octets.now)) }
-        ensures whole { IfOk result (λ content. whole_now (channel_view self.old) (BodyOf octets.now)
-            ≡ Some (content_view content.value)) }
-        ensures ok { OnOk result (channel_view self.new ≡ contained Nothing (channel_view self.old)) }
-        ensures err { OnErr result (channel_view self.new ≡ channel_view self.old) }
-        ensures gathers { IsGathered self.new }
-        ensures was { IsGathered self.old }
-    {
-        match self {
-            Channel::Open(life) => life.finish_one_way(octets),
-            Channel::Free
-            | Channel::Opening
-            | Channel::Closing
-            | Channel::LentHeader(_, _)
-            | Channel::LentBody { .. } => unreachable!(),
         }
     }
 

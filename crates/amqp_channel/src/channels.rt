@@ -2,7 +2,7 @@
 //!
 //! A channel is kept from its open to its end, and none that is Free is kept: memory is bounded by the channels in use,
 //! whatever their numbers are.
-ghost use Rattle.std.specs.Prelude.{◌≡◌, ◌≢◌, ◌+◌, ◌<◌, ◌≤◌, true, false, not, ℕ, suc, IfNone, IfOk, IfSome, IsOk, OnErr, OnOk, MatchOption, None};
+ghost use Rattle.std.specs.Prelude.{◌≡◌, ◌≢◌, ◌+◌, ◌<◌, ◌≤◌, true, false, not, ℕ, suc, IfNone, IfOk, IfSome, IsOk, OnErr, OnOk, MatchOption, None, nat_eq};
 ghost use Rattle.amqp_model.specs.End.Amounts.{IsSum};
 ghost use Rattle.amqp_model.specs.End.Asks.{is_free, first_free};
 ghost use Rattle.amqp_model.specs.End.Channels.{Free};
@@ -12,7 +12,7 @@ ghost use Rattle.amqp_channel.specs.Channel.ChannelView.{channel_view, is_lent};
 ghost use Rattle.amqp_channel.specs.Channels.Used.{body_octets_at, header_octets_at, is_closing_at, used_gathered, used_view, BodiesFit, HoldsAt, IsIdleAt, IsKeptAt, IsTakenOut, KeepsEntriesAt, KeepsOthersAt, KeptAt, NoneElseFree, NoneFreeBelow, NoneKeptFree, NoneLentIn, PutAt, WritesAt};
 ghost use Rattle.amqp_channel.specs.Channels.Passed.{IsPassed, PassedAreTaken};
 ghost use Rattle.indexmap.specs.IndexMap.{index_map_len};
-ghost use Rattle.std.specs.HashMap.{IsUnchanged};
+ghost use Rattle.std.specs.HashMap.{IsUnchanged, IsUnique};
 ghost use Rattle.amqp_method.specs.MethodRefView.{lent_call};
 ghost use Rattle.amqp_model.specs.Wire.Readings.{BodyOf, Calls};
 ghost use Rattle.amqp_channel.specs.ReadingView.{header_said, reading_view};
@@ -222,6 +222,24 @@ impl Channels {
                 return Some(self.last);
             }
         }
+        self.look_up(number)
+    }
+
+    /// The same, by its number. It stands apart, since few frames come on another channel than the one before.
+    #[inline(never)]
+    fn look_up(&self, number: u16) -> Option<usize>
+        requires above { 0 < number }
+        requires unique { IsUnique nat_eq self.now.used }
+        ensures within { IfSome result (λ place. place < index_map_len self.now.used) }
+        ensures holds { IfSome result (λ place. HoldsAt self.now.used place number) }
+        ensures written { IfSome result (λ place. WritesAt self.now.used place number) }
+        ensures kept { IfSome result (λ place. KeptAt self.now.used place number) }
+        ensures put { IfSome result (λ place. PutAt self.now.used place number) }
+        ensures others { IfSome result (λ place. KeepsOthersAt self.now.used place number) }
+        ensures entries { IfSome result (λ place. KeepsEntriesAt self.now.used place number) }
+        ensures taken { IfSome result (λ place. is_free (channels_view self.now number) ≡ false) }
+        ensures none { IfNone result (channels_view self.now number ≡ Free) }
+    {
         let Some((place, _, _)) = self.used.get_full(&number) else {
             return None;
         };

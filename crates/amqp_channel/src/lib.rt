@@ -22,6 +22,7 @@ mod gathering;
 mod lent;
 mod life;
 mod parts;
+mod passing;
 mod progress;
 mod read;
 mod reading;

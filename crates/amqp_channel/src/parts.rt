@@ -83,7 +83,8 @@ impl EventParts {
     ghost use Rattle.amqp_channel.specs.Events.EventView.{event_view};
     ghost use Rattle.amqp_channel.specs.Events.PartsView.{parts_there, parts_view};
     ghost use Rattle.amqp_channel.specs.ReadingView.{reading_view};
-    ghost use Rattle.amqp_channel.specs.Verdict.VerdictView.{event_told, FitsEvent, IsDiscarded};
+    ghost use Rattle.amqp_channel.specs.Verdict.Passing.{IsOfMessage};
+    ghost use Rattle.amqp_channel.specs.Verdict.VerdictView.{event_told, FitsEvent, IsDiscarded, IsPart};
 
     /// Puts the parts where the caller has room for them, in which nothing is yet: to look whether there is anything to drop
     /// would cost each frame some nanoseconds.
@@ -142,18 +143,8 @@ impl EventParts {
         ensures drops { IsDiscarded told → IsOk result }
     {
         match told {
-            Told::Method => {
-                let Reading::Method(method) = reading else {
-                    unreachable!()
-                };
-                let method = method.to_owned(alloc)?;
-                EventParts::Method(Aligned::new(number), PlainMethod::new(method)).put_in(place);
-            }
-            Told::Begun | Told::Headed | Told::Continued => {}
-            Told::Completed => {
-                if let Some(content) = content {
-                    EventParts::Content(Aligned::new(number), content).put_in(place);
-                }
+            Told::Method | Told::Begun | Told::Headed | Told::Continued | Told::Completed => {
+                EventParts::tell_passed(alloc, number, reading, told, content, place)?;
             }
             Told::Opened => EventParts::Opened(Aligned::new(number)).put_in(place),
             Told::Flow(active) => EventParts::Flow(Aligned::new(number), active).put_in(place),
@@ -168,6 +159,43 @@ impl EventParts {
             Told::ClosedByUs => EventParts::ChannelClosed(None, Aligned::new(number)).put_in(place),
             Told::Discarded => EventParts::Discarded(Aligned::new(number)).put_in(place),
             Told::Quiet => EventParts::Quiet.put_in(place),
+        }
+        Ok(())
+    }
+
+    /// The same of a frame that passes, which has few events. Most frames pass: where all events were made in line, that
+    /// would be too large to be inlined.
+    #[inline(always)]
+    pub fn tell_passed(
+        alloc: Global,
+        number: u16,
+        reading: Reading<'_>,
+        told: Told,
+        content: Option<Box<Content>>,
+        place: &mut Option<EventParts>,
+    ) -> Result<(), OutOfMemory>
+        requires fits { FitsEvent (reading_view reading) told }
+        requires message { IsOfMessage told }
+        requires none { place.old ≡ None }
+        ensures event { OnOk result (parts_there place.new
+            ≡ event_told number (reading_view reading.entry) (content_there content) told) }
+        // Only a method without content takes memory.
+        ensures part { IsPart (reading_view reading.entry) → IsOk result }
+    {
+        match told {
+            Told::Method => {
+                let Reading::Method(method) = reading else {
+                    unreachable!()
+                };
+                let method = method.to_owned(alloc)?;
+                EventParts::Method(Aligned::new(number), PlainMethod::new(method)).put_in(place);
+            }
+            Told::Completed => {
+                if let Some(content) = content {
+                    EventParts::Content(Aligned::new(number), content).put_in(place);
+                }
+            }
+            _ => {}
         }
         Ok(())
     }

@@ -53,7 +53,7 @@ use crate::owed::Owed;
 use crate::settings::Settings;
 use crate::stage::Stage;
 use crate::tally::Tally;
-use amqp_channel::{Agreed, EventParts, Side};
+use amqp_channel::{Agreed, EventParts, Reading, Side};
 use amqp_frame::{OVERHEAD, PROTOCOL_HEADER, Splitter, faults_are_judged, one_frame_at_start};
 use amqp_method::{Method, Properties};
 use amqp_model::{bounds, controls, fitting, octets, one_end, pieces};
@@ -237,9 +237,14 @@ impl Endpoint {
         let Some(frame) = fed.frame else {
             return Ok(());
         };
-        let answer = self
-            .connection
-            .receive(&mut self.outbox, frame, account, &mut self.tally, heard);
+        let answer = self.connection.receive_by_rules(
+            &mut self.outbox,
+            frame,
+            Reading::of(frame),
+            account,
+            &mut self.tally,
+            heard,
+        );
         tune(&mut self.splitter, self.connection.stage);
         answer
     }

@@ -224,6 +224,7 @@ impl Connection {
     ghost use Rattle.amqp_core.specs.Faults.Blamed.{blames_frame, tally_view};
     ghost use Rattle.amqp_core.specs.Connection.Verdicts.{content_of, end_left, ended_if, verdict_here, FitsVerdict, FrameRules, StepsFrom};
     ghost use Rattle.amqp_channel.specs.Channels.Used.{is_closing_at};
+    ghost use Rattle.amqp_channel.specs.Verdict.Passing.{IsOfMessage};
     ghost use Rattle.amqp_channel.specs.Verdict.VerdictView.{IsPart};
     ghost use Rattle.amqp_channel.specs.declared.verdict.Verdict.TheVariants.{Proceeds};
     ghost use Rattle.amqp_model.specs.Stream.Traces.{word_of};
@@ -382,6 +383,7 @@ impl Connection {
         ensures content { IfOk result (λ passed. IfSome passed (λ it. content_there it.content
             ≡ content_of (OnChannel (Proceeds it.told None)) (channels_view self.old.channels number)
             (reading_view reading.entry))) }
+        ensures message { IfOk result (λ passed. IfSome passed (λ it. IsOfMessage it.told)) }
         ensures settings { self.new.settings ≡ self.old.settings }
         ensures stage { self.new.stage ≡ self.old.stage }
         ensures none { IfOk result (λ passed. passed ≡ None → self.new ≡ self.old) }
@@ -436,15 +438,14 @@ impl Connection {
             return Ok(None);
         };
         let Passed { told, content } = passed;
-        let verdict = ChannelVerdict::Proceeds(told, None);
-        keep_cause(reading, verdict, heard);
+        keep_cause(reading, ChannelVerdict::Proceeds(told, None), heard);
         account.took = Some(Note::taken(number, reading));
         account.owed = Owed::Nothing;
-        tell_on(
+        EventParts::tell_passed(
             self.alloc,
             number,
             reading,
-            verdict,
+            told,
             content,
             &mut account.parts,
         )?;
@@ -517,7 +518,7 @@ impl Connection {
 
     /// Takes a frame that says this, as the rules have it.
     #[inline(never)]
-    fn receive_by_rules(
+    pub(crate) fn receive_by_rules(
         &mut self,
         outbox: &mut Outbox,
         frame: FrameRef<'_>,
@@ -554,7 +555,8 @@ impl Connection {
     /// Takes a frame. What the end owes is put, and what came of the frame, its event too, is accounted for. Out of
     /// memory, the end fails, and nothing is put.
     ///
-    /// Each kind of frame goes its own way, so that what it says is not put into memory and looked at again.
+    /// Each kind of frame goes its own way, so that what it says is not put into memory and looked at again. It is called
+    /// in one place, where it is inlined, however large it is.
     #[inline(always)]
     pub(crate) fn receive(
         &mut self,

@@ -28,6 +28,6 @@ returns-clause-event c =
     let content : content_there c.in-Some.passed.content ≡ content_of verdict (channels_view old.channels number) reading =
     subst (λ (p : Option Passed). IfSome p (λ it. content_there it.content ≡ content_of (OnChannel (Proceeds it.told None)) (channels_view old.channels number) reading))
     c.in-Some.is c.in_ok-passed.ensures.content in
-    c.in_ok-tell_on.ensures.event old.settings
+    c.in_ok-tell_passed.ensures.event
     ∙ (ap (λ whole. event_by number (verdict_view old.settings number reading whole verdict)) content
     ∙ handed_event old.settings (connection_end old) number reading verdict)

@@ -27,14 +27,14 @@ use Rattle.amqp_core.proofs.DropLemmas.{none_pending, frame_there, given_dropped
 use Rattle.amqp_core.proofs.FeedLemmas.{sound_with, reads, takes, fed_by, frame_fed, rest_fed, fault_fed, first_fault, alone_in, stop_leaves, fed_holds, after_rest, after_frame, after_stop, fields_rest, fields_frame, fields_failed, frame_leaves, rest_unfinished, none_unfinished, unfinished_is}
 use Rattle.amqp_core.proofs.endpoint.Endpoint.read.Goals as goal
 
-pub receive-answer-requires-clause-taking : goal.receive-answer-requires-clause-taking
-receive-answer-requires-clause-taking c = takes (role_at c.args.self.now) (connection_end c.args.self.now.connection) c.args.self.now.heard c.args.self.now.splitter c.requires.sound.fields c.requires.reads
+pub receive_by_rules-answer-requires-clause-taking : goal.receive_by_rules-answer-requires-clause-taking
+receive_by_rules-answer-requires-clause-taking c = takes (role_at c.args.self.now) (connection_end c.args.self.now.connection) c.args.self.now.heard c.args.self.now.splitter c.requires.sound.fields c.requires.reads
 
 pub tune-requires-clause-fits : goal.tune-requires-clause-fits
 tune-requires-clause-fits c =
     let old = c.args.self.now in
     let r = reads (role_at old) (connection_end old.connection).phase c.requires.reads in
-    let left = frame_leaves (role_at old) (config_view old.connection.settings) (connection_end old.connection) (connection_end c.receive-answer.new.self) (lent c.in-Some.frame) (ran_out c.receive-answer.result) c.requires.sound.writes (c.agreed_is_within.ensures.frame (role_at old) (config_view old.connection.settings) (connection_end old.connection) (lent c.in-Some.frame)) (c.requires.sound.fields.awaited r.opened) c.requires.sound.fields.agreed c.receive-answer.ensures.receives.end in
+    let left = frame_leaves (role_at old) (config_view old.connection.settings) (connection_end old.connection) (connection_end c.receive_by_rules-answer.new.self) (lent c.in-Some.frame) (ran_out c.receive_by_rules-answer.result) c.requires.sound.writes (c.agreed_is_within.ensures.frame (role_at old) (config_view old.connection.settings) (connection_end old.connection) (lent c.in-Some.frame)) (c.requires.sound.fields.awaited r.opened) c.requires.sound.fields.agreed c.receive_by_rules-answer.ensures.receives.end in
     left.0
 
 pub returns-in_default-clause-fed : goal.returns-in_default-clause-fed
@@ -68,8 +68,8 @@ returns-clause-fed c =
     let after = after_frame old.splitter c.args.piece.now c.feed_ref.result c.in-Ok.fed c.in-Some.frame c.feed_ref.follows.lender-at-none c.feed_ref.follows.holds-at-none c.in-Ok.is c.in-Some.is in
     let completes : Completes old.splitter (take c.in-Ok.fed.taken c.args.piece.now) (lent c.in-Some.frame) = subst (λ o. IfSome o (λ f. Completes old.splitter (take c.in-Ok.fed.taken c.args.piece.now) (lent f))) c.in-Some.is c.in-Ok.ensures.feeds.frame in
     let pending : c.tune.new.splitter.pending ≡ [] = ap (λ (s : Stream). s.pending) c.tune.ensures ∙ ap (λ (s : Stream). s.pending) after in
-    frame_fed (role_at old) (config_view old.connection.settings) (endpoint_view old) old.splitter c.args.piece.now c.in-Ok.fed.taken c.receive-answer.new.account.octets (lent c.in-Some.frame) c.receive-answer.result (parts_there c.receive-answer.new.account.parts) (connection_end c.receive-answer.new.self) (unfinished_of old.heard c.tune.new.splitter.pending) c.receive-answer.new.outbox
-    (c.pieces_are_split.ensures.frame (role_at old) (config_view old.connection.settings) (endpoint_view old) old.splitter c.args.piece.now c.in-Ok.fed.taken (lent c.in-Some.frame)) by c.in-Ok.ensures.feeds.within completes c.receive-answer.ensures.receives.octets c.receive-answer.ensures.receives.said c.receive-answer.ensures.receives.end (none_unfinished old.heard c.tune.new.splitter.pending none pending) c.receive-answer.ensures.receives.output
+    frame_fed (role_at old) (config_view old.connection.settings) (endpoint_view old) old.splitter c.args.piece.now c.in-Ok.fed.taken c.receive_by_rules-answer.new.account.octets (lent c.in-Some.frame) c.receive_by_rules-answer.result (parts_there c.receive_by_rules-answer.new.account.parts) (connection_end c.receive_by_rules-answer.new.self) (unfinished_of old.heard c.tune.new.splitter.pending) c.receive_by_rules-answer.new.outbox
+    (c.pieces_are_split.ensures.frame (role_at old) (config_view old.connection.settings) (endpoint_view old) old.splitter c.args.piece.now c.in-Ok.fed.taken (lent c.in-Some.frame)) by c.in-Ok.ensures.feeds.within completes c.receive_by_rules-answer.ensures.receives.octets c.receive_by_rules-answer.ensures.receives.said c.receive_by_rules-answer.ensures.receives.end (none_unfinished old.heard c.tune.new.splitter.pending none pending) c.receive_by_rules-answer.ensures.receives.output
 
 pub returns-clause-sound : goal.returns-clause-sound
 returns-clause-sound c =
@@ -77,11 +77,11 @@ returns-clause-sound c =
     let r = reads (role_at old) (connection_end old.connection).phase c.requires.reads in
     let by = fed_by (role_at old) (connection_end old.connection) old.heard old.splitter old.outbox.output c.args.piece.now c.requires.reads c.requires.sound.fields c.requires.sound.holds (λ i. omega (arith, c.type_inv.piece i)) in
     let after = after_frame old.splitter c.args.piece.now c.feed_ref.result c.in-Ok.fed c.in-Some.frame c.feed_ref.follows.lender-at-none c.feed_ref.follows.holds-at-none c.in-Ok.is c.in-Some.is in
-    let left = frame_leaves (role_at old) (config_view old.connection.settings) (connection_end old.connection) (connection_end c.receive-answer.new.self) (lent c.in-Some.frame) (ran_out c.receive-answer.result) c.requires.sound.writes (c.agreed_is_within.ensures.frame (role_at old) (config_view old.connection.settings) (connection_end old.connection) (lent c.in-Some.frame)) (c.requires.sound.fields.awaited r.opened) c.requires.sound.fields.agreed c.receive-answer.ensures.receives.end in
-    sound_with old.connection.settings (record { connection = c.receive-answer.new.self; splitter = c.tune.new.splitter; heard = old.heard; outbox = c.receive-answer.new.outbox; tally = c.receive-answer.new.tally }) c.receive-answer.ensures.receives.settings c.requires.sound.writes (ap (λ (o : Outgoing). o.staged) c.receive-answer.ensures.receives.output)
-    (fields_frame (role_at old) (connection_end old.connection) (connection_end c.receive-answer.new.self) old.heard old.splitter c.feed_ref.follows.lender-at-none c.tune.new.splitter (place_after old.splitter.taken c.in-Ok.fed.taken) c.requires.reads c.requires.sound.fields after c.tune.ensures left.0 left.1)
+    let left = frame_leaves (role_at old) (config_view old.connection.settings) (connection_end old.connection) (connection_end c.receive_by_rules-answer.new.self) (lent c.in-Some.frame) (ran_out c.receive_by_rules-answer.result) c.requires.sound.writes (c.agreed_is_within.ensures.frame (role_at old) (config_view old.connection.settings) (connection_end old.connection) (lent c.in-Some.frame)) (c.requires.sound.fields.awaited r.opened) c.requires.sound.fields.agreed c.receive_by_rules-answer.ensures.receives.end in
+    sound_with old.connection.settings (record { connection = c.receive_by_rules-answer.new.self; splitter = c.tune.new.splitter; heard = old.heard; outbox = c.receive_by_rules-answer.new.outbox; tally = c.receive_by_rules-answer.new.tally }) c.receive_by_rules-answer.ensures.receives.settings c.requires.sound.writes (ap (λ (o : Outgoing). o.staged) c.receive_by_rules-answer.ensures.receives.output)
+    (fields_frame (role_at old) (connection_end old.connection) (connection_end c.receive_by_rules-answer.new.self) old.heard old.splitter c.feed_ref.follows.lender-at-none c.tune.new.splitter (place_after old.splitter.taken c.in-Ok.fed.taken) c.requires.reads c.requires.sound.fields after c.tune.ensures left.0 left.1)
     (fed_holds (role_at old) (config_view old.connection.settings) (endpoint_view old) _ old.splitter c.args.piece.now _ (c.unfinished_is_held.ensures.feed (role_at old) (config_view old.connection.settings) (endpoint_view old) c.args.piece.now) by (returns-clause-fed c))
-    (bounded_frame (role_at old) (config_view old.connection.settings) (connection_end old.connection) (connection_end c.receive-answer.new.self) (lent c.in-Some.frame) (ran_out c.receive-answer.result) (c.ends_are_bounded.ensures.frame (role_at old) (config_view old.connection.settings) (connection_end old.connection) (lent c.in-Some.frame)) r.octets c.requires.sound.bounded c.receive-answer.ensures.receives.end)
+    (bounded_frame (role_at old) (config_view old.connection.settings) (connection_end old.connection) (connection_end c.receive_by_rules-answer.new.self) (lent c.in-Some.frame) (ran_out c.receive_by_rules-answer.result) (c.ends_are_bounded.ensures.frame (role_at old) (config_view old.connection.settings) (connection_end old.connection) (lent c.in-Some.frame)) r.octets c.requires.sound.bounded c.receive_by_rules-answer.ensures.receives.end)
 
 pub returns-in-Err-clause-fed : goal.returns-in-Err-clause-fed
 returns-in-Err-clause-fed c =
@@ -111,7 +111,7 @@ returns-clause-in_place c = λ drops.
     let old = c.args.self.now in
     let completes : Completes old.splitter (take c.in-Ok.fed.taken c.args.piece.now) (lent c.in-Some.frame) = subst (λ o. IfSome o (λ f. Completes old.splitter (take c.in-Ok.fed.taken c.args.piece.now) (lent f))) c.in-Some.is c.in-Ok.ensures.feeds.frame in
     let none = none_pending (role_at old) (connection_end old.connection) old.heard old.splitter old.outbox.output c.args.piece.now c.requires.sound.fields drops in
-    c.receive-answer.ensures.receives.alone (given_dropped (role_at old) (endpoint_view old) old.splitter c.args.piece.now c.in-Ok.fed.taken (lent c.in-Some.frame) c.one_frame_at_start.ensures drops none completes)
+    c.receive_by_rules-answer.ensures.receives.alone (given_dropped (role_at old) (endpoint_view old) old.splitter c.args.piece.now c.in-Ok.fed.taken (lent c.in-Some.frame) c.one_frame_at_start.ensures drops none completes)
 
 pub returns-in-Err-clause-in_place : goal.returns-in-Err-clause-in_place
 returns-in-Err-clause-in_place c = λ drops.
@@ -134,19 +134,19 @@ returns-clause-account c = λ ran.
     let old = c.args.self.now in
     let by = fed_by (role_at old) (connection_end old.connection) old.heard old.splitter old.outbox.output c.args.piece.now c.requires.reads c.requires.sound.fields c.requires.sound.holds (λ i. omega (arith, c.type_inv.piece i)) in
     let completes : Completes old.splitter (take c.in-Ok.fed.taken c.args.piece.now) (lent c.in-Some.frame) = subst (λ o. IfSome o (λ f. Completes old.splitter (take c.in-Ok.fed.taken c.args.piece.now) (lent f))) c.in-Some.is c.in-Ok.ensures.feeds.frame in
-    let item = item_is c.receive-answer.result c.receive-answer.new.account.octets (parts_there c.receive-answer.new.account.parts)
+    let item = item_is c.receive_by_rules-answer.result c.receive_by_rules-answer.new.account.octets (parts_there c.receive_by_rules-answer.new.account.parts)
     (outcome_of (facts_at (config_view old.connection.settings) (connection_end old.connection) (lent c.in-Some.frame).channel) (end_verdict (config_view old.connection.settings) (connection_end old.connection) (lent c.in-Some.frame)))
-    c.receive-answer.ensures.receives.said ran in
+    c.receive_by_rules-answer.ensures.receives.said ran in
     account_of_frame (role_at old) (config_view old.connection.settings) (endpoint_view old) c.args.piece.now _ c.in-Ok.fed.taken _ (lent c.in-Some.frame) _ c.judged_is_said.ensures.one c.requires.reads
     (c.pieces_are_split.ensures.frame (role_at old) (config_view old.connection.settings) (endpoint_view old) old.splitter c.args.piece.now c.in-Ok.fed.taken (lent c.in-Some.frame) by c.in-Ok.ensures.feeds.within completes)
-    (whole_of old.splitter (endpoint_view old) (take c.in-Ok.fed.taken c.args.piece.now) (lent c.in-Some.frame) by.splits completes) c.receive-answer.ensures.receives.octets
-    (λ i. record { took = c.receive-answer.ensures.receives.took i; item = item i; owed = c.receive-answer.ensures.receives.owed ran i })
+    (whole_of old.splitter (endpoint_view old) (take c.in-Ok.fed.taken c.args.piece.now) (lent c.in-Some.frame) by.splits completes) c.receive_by_rules-answer.ensures.receives.octets
+    (λ i. record { took = c.receive_by_rules-answer.ensures.receives.took i; item = item i; owed = c.receive_by_rules-answer.ensures.receives.owed ran i })
 
 pub returns-clause-grows : goal.returns-clause-grows
 returns-clause-grows c =
     let old = c.args.self.now in
-    frame_grows old.connection.settings (connection_end old.connection) (lent c.in-Some.frame) c.receive-answer.result c.receive-answer.new.account.owed old.outbox.output c.receive-answer.new.outbox c.requires.sound.writes
-    (c.frames_are_within.ensures.verdict (role_at old) (facts_at (config_view old.connection.settings) (connection_end old.connection) (lent c.in-Some.frame).channel) (reading (lent c.in-Some.frame))) c.receive-answer.ensures.receives.owed c.receive-answer.ensures.receives.output
+    frame_grows old.connection.settings (connection_end old.connection) (lent c.in-Some.frame) c.receive_by_rules-answer.result c.receive_by_rules-answer.new.account.owed old.outbox.output c.receive_by_rules-answer.new.outbox c.requires.sound.writes
+    (c.frames_are_within.ensures.verdict (role_at old) (facts_at (config_view old.connection.settings) (connection_end old.connection) (lent c.in-Some.frame).channel) (reading (lent c.in-Some.frame))) c.receive_by_rules-answer.ensures.receives.owed c.receive_by_rules-answer.ensures.receives.output
 
 pub returns-in-Err-clause-account : goal.returns-in-Err-clause-account
 returns-in-Err-clause-account c = λ ran.
@@ -172,8 +172,8 @@ returns-in_default-clause-message c = λ is. absurd (subst (λ (e : Option Event
 pub returns-clause-message : goal.returns-clause-message
 returns-clause-message c =
     let old = c.args.self.now in
-    alone_in c.receive-answer.result (IsMessage (parts_there c.receive-answer.new.account.parts)) (connection_end old.connection) (connection_end c.receive-answer.new.self) [] []
-    (unfinished_of old.heard old.splitter.pending) (unfinished_of old.heard c.tune.new.splitter.pending) old.outbox.output c.receive-answer.new.outbox.output c.receive-answer.ensures.receives.message
+    alone_in c.receive_by_rules-answer.result (IsMessage (parts_there c.receive_by_rules-answer.new.account.parts)) (connection_end old.connection) (connection_end c.receive_by_rules-answer.new.self) [] []
+    (unfinished_of old.heard old.splitter.pending) (unfinished_of old.heard c.tune.new.splitter.pending) old.outbox.output c.receive_by_rules-answer.new.outbox.output c.receive_by_rules-answer.ensures.receives.message
 
 -- What is counted and blamed.
 
@@ -191,9 +191,9 @@ returns-clause-tally c =
     let old = c.args.self.now in
     let by = fed_by (role_at old) (connection_end old.connection) old.heard old.splitter old.outbox.output c.args.piece.now c.requires.reads c.requires.sound.fields c.requires.sound.holds (λ i. omega (arith, c.type_inv.piece i)) in
     let completes : Completes old.splitter (take c.in-Ok.fed.taken c.args.piece.now) (lent c.in-Some.frame) = subst (λ o. IfSome o (λ f. Completes old.splitter (take c.in-Ok.fed.taken c.args.piece.now) (lent f))) c.in-Some.is c.in-Ok.ensures.feeds.frame in
-    blames_of_frame (role_at old) (config_view old.connection.settings) c.receive-answer.result (endpoint_view old) c.args.piece.now _ c.in-Ok.fed.taken (lent c.in-Some.frame) _ _ _ c.judged_is_said.ensures.one c.requires.reads
+    blames_of_frame (role_at old) (config_view old.connection.settings) c.receive_by_rules-answer.result (endpoint_view old) c.args.piece.now _ c.in-Ok.fed.taken (lent c.in-Some.frame) _ _ _ c.judged_is_said.ensures.one c.requires.reads
     (c.pieces_are_split.ensures.frame (role_at old) (config_view old.connection.settings) (endpoint_view old) old.splitter c.args.piece.now c.in-Ok.fed.taken (lent c.in-Some.frame) by c.in-Ok.ensures.feeds.within completes)
-    (whole_of old.splitter (endpoint_view old) (take c.in-Ok.fed.taken c.args.piece.now) (lent c.in-Some.frame) by.splits completes) c.count.ensures c.receive-answer.ensures.tally
+    (whole_of old.splitter (endpoint_view old) (take c.in-Ok.fed.taken c.args.piece.now) (lent c.in-Some.frame) by.splits completes) c.count.ensures c.receive_by_rules-answer.ensures.tally
 
 pub blame_octets-requires : goal.blame_octets-requires
 blame_octets-requires c = framing_broken c.in-Err.fault.kind c.stop-answer.result c.stop-answer.ensures.said
@@ -217,10 +217,10 @@ returns-clause-heard c =
     let frame = lent c.in-Some.frame in
     let by = fed_by role (connection_end old.connection) old.heard old.splitter old.outbox.output piece c.requires.reads c.requires.sound.fields c.requires.sound.holds (λ i. omega (arith, c.type_inv.piece i)) in
     let completes : Completes old.splitter (take octets piece) frame = subst (λ o. IfSome o (λ f. Completes old.splitter (take octets piece) (lent f))) c.in-Some.is c.in-Ok.ensures.feeds.frame in
-    frame_heard role config c.receive-answer.result (endpoint_view old) piece _ octets frame _ _ c.judged_is_said.ensures.one c.requires.reads
+    frame_heard role config c.receive_by_rules-answer.result (endpoint_view old) piece _ octets frame _ _ c.judged_is_said.ensures.one c.requires.reads
     (c.pieces_are_split.ensures.frame role config (endpoint_view old) old.splitter piece octets frame by c.in-Ok.ensures.feeds.within completes)
     (whole_of old.splitter (endpoint_view old) (take octets piece) frame by.splits completes)
-    c.receive-answer.ensures.receives.heard c.receive-answer.ensures.receives.at_fault
+    c.receive_by_rules-answer.ensures.receives.heard c.receive_by_rules-answer.ensures.receives.at_fault
 
 pub returns-in_default-clause-heard : goal.returns-in_default-clause-heard
 returns-in_default-clause-heard c =
