@@ -1,5 +1,5 @@
 /* The ends as C programs call them: null pointers are refused here, what a program gives is brought into the form that
- * the proved functions take, and a batch of an end that keeps its events is fed one event after the other. */
+ * the proved functions take. */
 #include "meadowtray.h"
 
 /* The room of an end's handle. */
@@ -126,13 +126,9 @@ typedef struct cause_told {
 uint32_t proved_client_open(slot *slot, const client_settings *settings);
 uint32_t proved_server_open(slot *slot, const server_settings *settings);
 uint32_t proved_end_close(slot *slot);
-uint32_t proved_end_make_place(slot *slot, size_t place);
-uint32_t proved_end_feed(slot *slot, size_t place, const uint8_t *piece, size_t length, fed_end *fed);
-uint32_t proved_end_feed_shown(slot *slot, const uint8_t *piece, size_t length, fed_end *fed, seen_event *seen);
 uint32_t proved_end_feed_lent(slot *slot, const uint8_t *piece, size_t length, fed_end *fed, seen_event *seen);
-uint32_t proved_end_lend_batch(slot *slot, const uint8_t *piece, size_t length, event_place *places, size_t capacity,
+uint32_t proved_end_feed_batch(slot *slot, const uint8_t *piece, size_t length, event_place *places, size_t capacity,
 			       fed_end *fed, size_t *count);
-uint32_t proved_end_event(slot *slot, size_t place, seen_event *seen);
 uint32_t proved_end_output(slot *slot, mt_octets *output);
 uint32_t proved_end_wrote(slot *slot, size_t length);
 uint32_t proved_end_ask(slot *slot, const given_ask *ask, uint16_t *channel);
@@ -282,109 +278,55 @@ static seen_event *seen_of(mt_event *event)
 	return (seen_event *)event;
 }
 
-/* Feeds an end that gathers, at a place that is made where it isn't there yet. */
-static uint32_t feed_at(mt_end *end, size_t place, const uint8_t *piece, size_t length, fed_end *fed)
-{
-	uint32_t status = proved_end_feed((slot *)end, place, piece, length, fed);
-
-	if (status != MT_NO_ROOM)
-		return status;
-	status = proved_end_make_place((slot *)end, place);
-	return status == MT_OK ? proved_end_feed((slot *)end, place, piece, length, fed) : status;
-}
-
-/* Shows the event at a place. */
-static uint32_t show(mt_end *end, size_t place, mt_event *event)
-{
-	return proved_end_event((slot *)end, place, seen_of(event));
-}
-
-/* Feeds an end that gathers, and shows the event. Its first place is made where it isn't there yet. */
-static uint32_t feed_and_show(mt_end *end, const uint8_t *piece, size_t length, mt_event *event)
+/* Feeds an end with no octets: only a fault comes of them. */
+static uint32_t feed_nothing(mt_end *end, mt_event *event)
 {
 	fed_end fed = {0, 0, MT_EVENT_NONE};
-	uint32_t status = proved_end_feed_shown((slot *)end, piece, length, &fed, seen_of(event));
+	size_t count = 0;
+	uint32_t status;
 
-	if (status == MT_NO_ROOM) {
-		status = proved_end_make_place((slot *)end, 0);
-		if (status == MT_OK)
-			status = proved_end_feed_shown((slot *)end, piece, length, &fed, seen_of(event));
-	}
-	event->taken = fed.taken;
-	if (status != MT_OK)
-		event->code = fed.code;
+	*event = NO_EVENT;
+	status = proved_end_feed_lent((slot *)end, NOTHING, 0, &fed, seen_of(event));
+	if (status == MT_OTHER_KIND)
+		status = proved_end_feed_batch((slot *)end, NOTHING, 0, (event_place *)event, 1, &fed, &count);
 	return status;
 }
 
 uint32_t mt_end_feed(mt_end *end, const uint8_t *piece, size_t length, mt_event *event)
 {
-	const uint8_t *octets = piece ? piece : NOTHING;
 	fed_end fed = {0, 0, MT_EVENT_NONE};
-	size_t count = 0;
+	size_t count = 0, at = 0;
 	uint32_t status;
 
 	WANTED(end && event && (piece || length == 0));
-	/* A batch with one place is one feed of what has octets, and the shorter way: what it shows is put into its place at
-	 * once. */
-	if (length > 0) {
-		status = proved_end_lend_batch((slot *)end, octets, length, (event_place *)event, 1, &fed, &count);
-		if (count == 0)
-			*event = NO_EVENT;
-	} else {
+	if (length == 0)
+		return feed_nothing(end, event);
+	/* A batch with one place. It stops after a frame that began in an earlier piece, too. */
+	do {
+		status = proved_end_feed_batch((slot *)end, piece + at, length - at, (event_place *)event, 1, &fed, &count);
+		at += fed.taken;
+	} while (status == MT_OK && count == 0 && at < length);
+	if (count == 0)
 		*event = NO_EVENT;
-		status = proved_end_feed_lent((slot *)end, octets, length, &fed, seen_of(event));
-	}
-	if (status == MT_OTHER_KIND)
-		return feed_and_show(end, octets, length, event);
-	event->taken = fed.taken;
+	event->taken = at;
 	if (status != MT_OK)
 		event->code = fed.code;
 	return status;
-}
-
-uint32_t mt_end_event(mt_end *end, mt_event *event)
-{
-	WANTED(end && event);
-	*event = NO_EVENT;
-	return show(end, 0, event);
 }
 
 uint32_t mt_end_feed_batch(mt_end *end, const uint8_t *piece, size_t length, mt_event *events, size_t capacity,
 			   size_t *count, size_t *taken, uint16_t *code)
 {
 	fed_end fed = {0, 0, MT_EVENT_NONE};
-	size_t found = 0, at = 0;
 	uint32_t status;
 
 	WANTED(end && events && count && taken && (piece || length == 0));
 	*count = 0;
-	status = proved_end_lend_batch((slot *)end, piece ? piece : NOTHING, length, (event_place *)events, capacity, &fed,
+	status = proved_end_feed_batch((slot *)end, piece ? piece : NOTHING, length, (event_place *)events, capacity, &fed,
 				       count);
 	*taken = fed.taken;
 	if (code)
 		*code = fed.code;
-	if (status != MT_OTHER_KIND)
-		return status;
-	status = proved_end_make_place((slot *)end, 0);
-	while (status == MT_OK && found < capacity && at < length) {
-		fed = (fed_end){0, 0, MT_EVENT_NONE};
-		status = feed_at(end, found, piece + at, length - at, &fed);
-		at += fed.taken;
-		if (status == MT_OK && fed.kind != MT_EVENT_NONE) {
-			events[found] = NO_EVENT;
-			events[found++].taken = at;
-		}
-	}
-	*count = found;
-	*taken = at;
-	if (code)
-		*code = fed.code;
-	for (size_t i = 0; i < found; ++i) {
-		uint32_t shown = show(end, i, &events[i]);
-
-		if (shown != MT_OK)
-			return shown;
-	}
 	return status;
 }
 

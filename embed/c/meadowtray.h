@@ -542,9 +542,8 @@ enum {
  * was told, `method` and `header` are payloads, as mt_method_read and mt_header_read take them, and `body` is its body;
  * `holds` says whether it has a content. `channel` is that of each event that concerns one.
  *
- * After MT_END_PEER `code` is that of the close which was put. All octets are lent by the end, until the next call
- * with it. Those of an end that lends lie in the piece where the frame lies whole in it: they are read while the piece
- * stays, too. */
+ * After MT_END_PEER `code` is that of the close which was put. All octets are lent until the next call with the end, and
+ * while the piece stays: of a frame that lies whole in the piece they lie there. */
 typedef struct mt_event {
 	mt_octets method;
 	mt_octets header;
@@ -560,26 +559,22 @@ typedef struct mt_event {
 	size_t taken;
 } mt_event;
 
-/* Takes octets up to the end of the next frame, or of the protocol header at a server that awaits it. Where the piece
- * ends before that, all of it is taken. Call it again with the rest of the piece until none is left. Replies wait in
- * the output, which has no limit: don't feed while it is longer than a bound of your own.
+/* Takes octets up to the end of the next frame of which something is told. Where the piece ends before that, all of it
+ * is taken. An end that lends tells of each frame; any other keeps the frames of a content until it is whole, and
+ * tells it then. Call it again with the rest of the piece until none is left. Replies wait in the output, which has no
+ * limit: don't feed while it is longer than a bound of your own.
  *
- * MT_END_PEER and the statuses beside it are the end's own faults; nothing is told then. With MT_OUT_OF_MEMORY nothing
- * was taken, and the piece may be fed again; after MT_END_OUT_OF_MEMORY each feed is MT_END_FAILED. `piece` may be null
- * where `length` is 0. */
+ * MT_END_PEER and the statuses beside it are the end's own faults; nothing is told then. After MT_END_OUT_OF_MEMORY
+ * each feed is MT_END_FAILED. `piece` may be null where `length` is 0. */
 uint32_t mt_end_feed(mt_end *end, const uint8_t *piece, size_t length, mt_event *event);
 
-/* Shows the event of the last mt_end_feed once more. An end that lends keeps none: MT_NO_ROOM. */
-uint32_t mt_end_event(mt_end *end, mt_event *event);
-
-/* Feeds as mt_end_feed does, again and again, and puts the events into events[0] and so on: `count` says how many,
- * and `taken` how many octets were taken. It stops where `capacity` events are there, where the piece ends, and at a
- * fault; pieces of which no event comes take no place. All that the events lend is read until the next call.
+/* Feeds as mt_end_feed does, again and again, and puts the events into events[0] and so on: `count` says how many, and
+ * `taken` how many octets were taken. It stops where `capacity` events are there, where the piece ends, at a fault,
+ * and after a frame that began in an earlier piece, since that one is the end's own; frames of which nothing is told
+ * take no place. Call it again with the rest of the piece until none is left.
  *
  * At a fault the status is the fault's, and the events before it are there all the same; `code`, which may be null, is
- * that of the close. The end keeps room for as many events as the greatest `capacity` that it was given.
- *
- * An end that lends keeps none, and stops after a frame that began in an earlier piece too, since that frame is its own. */
+ * that of the close. An end that doesn't lend keeps room for as many contents as came of one batch. */
 uint32_t mt_end_feed_batch(mt_end *end, const uint8_t *piece, size_t length, mt_event *events, size_t capacity,
 			   size_t *count, size_t *taken, uint16_t *code);
 

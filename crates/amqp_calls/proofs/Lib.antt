@@ -1,5 +1,6 @@
 pub mod Begun
 pub mod Counting
+pub mod GatheredPlaces
 pub mod HeldContents
 pub mod LentHeaders
 pub mod LentPlaces

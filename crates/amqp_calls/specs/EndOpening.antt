@@ -1,5 +1,5 @@
 -- A handle opened with an end: what C says of it, what the end is then set up with, and why it isn't opened.
-use Rattle.std.specs.Prelude.{Box, Bool, true, false, ◌≡◌, ◌<◌, ℕ, List, [], ◌∷◌, ◌++◌, length, Option, Some}
+use Rattle.std.specs.Prelude.{Box, Bool, true, false, ◌≡◌, ℕ, [], Option, Some}
 use Rattle.std.specs.Prelude.{None, ◌⊎◌}
 use Rattle.std.specs.Global.{Global}
 use Rattle.amqp_value.specs.Whole.{table_encoded}
@@ -16,14 +16,11 @@ use Rattle.amqp_core.specs.declared.settings.Settings.{Settings}
 use Rattle.amqp_core.specs.declared.stream.StreamEnd.{StreamEnd}
 use Rattle.amqp_handle.specs.Gathered.{coming, counts}
 use Rattle.amqp_handle.specs.declared.gathering.Gathering.{Gathering}
-use Rattle.amqp_handle.specs.declared.gathering.Place.{Place}
-use Rattle.amqp_handle.specs.declared.gathering.Said.TheVariants.{Nothing}
 use Rattle.amqp_handle.specs.declared.kept.HeldEnd.{HeldEnd}
 use Rattle.amqp_handle.specs.declared.kept.HeldEnd.TheVariants.{Client, Server}
 use Rattle.amqp_handle.specs.declared.kept.Kept.{Kept}
 use Rattle.amqp_calls.specs.CodecStatuses.{value_status}
 use Rattle.amqp_calls.specs.EndNumbers.{config_status}
-use Rattle.amqp_calls.specs.HeldEnds.{Does}
 use Rattle.amqp_calls.specs.Writing.{NotCounted, NotTable}
 use Rattle.amqp_calls.specs.declared.codec.owned.ArgFault.{ArgFault}
 use Rattle.amqp_calls.specs.declared.codec.owned.ArgFault.TheVariants as arg
@@ -146,31 +143,3 @@ OpensClient old given status new = Opens (HoldsClient given) (NotClient given) o
 
 abbrev pub OpensServer : Option HeldEnd → ServerSettings → ℕ → Option HeldEnd → Type 0
 OpensServer old given status new = Opens (HoldsServer given) (NotServer given) old status new
-
--- what comes of a place that is asked for
-pub data MakesPlace (old : Gathering) (place status : ℕ) (new : Gathering) : Type 0 where
-  -- it was there
-  there : status ≡ 0 → place < length old.places.items → new ≡ old → MakesPlace old place status new
-  -- it is the next, and is made, and nothing is said there
-  made : (next : Place) → status ≡ 0 → place ≡ length old.places.items → next.said ≡ Nothing
-      → new.places.items ≡ old.places.items ++ (next ∷ []) → new ≡ record old { places = new.places }
-      → MakesPlace old place status new
-  -- memory is refused
-  refused : status ≡ 4 → new.places.items ≡ old.places.items → new ≡ record old { places = new.places }
-      → MakesPlace old place status new
-  -- it isn't the next
-  past : status ≡ 7 → length old.places.items < place → new ≡ old → MakesPlace old place status new
-
--- an end that lends has no places
-abbrev pub MakesIn : Option (Box Gathering Global) → ℕ → ℕ → Option (Box Gathering Global) → Type 0
-MakesIn None place status new = (status ≡ 3) × (new ≡ None)
-MakesIn (Some old) place status None = ⊥
-MakesIn (Some old) place status (Some new) = MakesPlace old.value place status new.value
-
--- the end stays as it is
-abbrev pub MakesOne : {R H : Type 0} {G : Ghosts R H} → (old : Kept (StreamEnd R H G)) → ℕ → ℕ
-    → (new : Kept (StreamEnd R H G)) → Type 0
-MakesOne old place status new = MakesIn old.gathering place status new.gathering × (new.end ≡ old.end)
-
-abbrev pub MakesPlaceAt : Option HeldEnd → ℕ → ℕ → Option HeldEnd → Type 0
-MakesPlaceAt old place status new = Does status (λ R H G kept now. MakesOne kept place status now) old new

@@ -1,6 +1,6 @@
 -- What a batch of feeds of an end behind a handle does whose events lend. Read before: what one such feed does
 -- (`LentEvents`).
-use Rattle.std.specs.Prelude.{◌≡◌, ◌≢◌, ◌+◌, ◌<◌, ℕ, List, [], ◌∷◌, length, take, drop, Option, Some, None, Result, Ok, Err}
+use Rattle.std.specs.Prelude.{◌≡◌, ◌+◌, ◌<◌, ℕ, List, [], ◌∷◌, length, take, drop, Option, Some, None, Result, Ok, Err}
 use Rattle.std.specs.Prelude.{slice_set, ◌⊎◌}
 use Rattle.amqp_frame.specs.Frame.{Frame}
 use Rattle.amqp_model.specs.Lent.Alike.{LentEvent}
@@ -11,11 +11,9 @@ use Rattle.amqp_core.specs.declared.faults.CoreFault.{CoreFault}
 use Rattle.amqp_core.specs.declared.roles.Role.{Ghosts}
 use Rattle.amqp_core.specs.declared.step.Step.{Step}
 use Rattle.amqp_core.specs.declared.stream.StreamEnd.{StreamEnd}
-use Rattle.amqp_handle.specs.declared.kept.HeldEnd.{HeldEnd}
 use Rattle.amqp_handle.specs.declared.kept.Kept.{Kept}
 use Rattle.amqp_calls.specs.EndNumbers.{core_status}
 use Rattle.amqp_calls.specs.Feeding.{TellsCode}
-use Rattle.amqp_calls.specs.HeldEnds.{Of}
 use Rattle.amqp_calls.specs.LentEvents.{TellsEvent}
 use Rattle.amqp_calls.specs.declared.ends.batching.EventPlace.{EventPlace}
 use Rattle.amqp_calls.specs.declared.ends.feeding.FedEnd.{FedEnd}
@@ -156,16 +154,3 @@ pub record BatchAnswer {R H : Type 0} {G : Ghosts R H} (old : StreamEnd R H G) (
   pub answer : Result (Option Step) CoreFault
   pub frames : LendsFrames old piece places answer taken shown filled new
   pub told : TellsStop answer (given_in new) taken shown filled status fed count now
-
--- of an end that lends; one that gathers is fed by another call
-abbrev pub BatchOne : {R H : Type 0} {G : Ghosts R H} → Kept (StreamEnd R H G) → List ℕ → List EventPlace → ℕ → FedEnd
-    → (count : ℕ) → (now : List EventPlace) → Type 0
-BatchOne kept piece places status fed count now =
-    ((status ≡ 3) × (kept.gathering ≢ None) × (now ≡ places))
-    ⊎ BatchAnswer kept.end.value piece places status fed count now
-
--- a handle that isn't open is refused
-abbrev pub BatchesLent : Option HeldEnd → List ℕ → List EventPlace → ℕ → FedEnd → (count : ℕ) → (now : List EventPlace)
-    → Type 0
-BatchesLent held piece places status fed count now =
-    Of status (λ R H G kept. BatchOne kept piece places status fed count now) held × (held ≡ None → now ≡ places)

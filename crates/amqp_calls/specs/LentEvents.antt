@@ -51,7 +51,7 @@ TellsOther events.OpenAsked out = out.kind ≡ 14
 -- an event, with the octets as they came
 abbrev pub TellsEvent : LentEvent → SeenEvent → Type 0
 TellsEvent (WithoutContent channel method) out =
-    (out.kind ≡ 3) × (out.channel ≡ channel) × EncodesMethod method out.method.now
+    (out.kind ≡ 3) × (out.channel ≡ channel) × EncodesMethod method out.method.now × (out.holds ≡ false)
 TellsEvent (Begins channel method) out =
     (out.kind ≡ 15) × (out.channel ≡ channel) × EncodesMethod method out.method.now
 TellsEvent (Heads channel size properties whole) out =

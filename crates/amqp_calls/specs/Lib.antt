@@ -1,3 +1,4 @@
+pub mod Batches
 pub mod BegunContents
 pub mod Blaming
 pub mod Closing
@@ -10,8 +11,8 @@ pub mod EndLending
 pub mod EndNumbers
 pub mod EndOpening
 pub mod EndWrites
-pub mod Events
 pub mod Feeding
+pub mod GatheredBatches
 pub mod Handles
 pub mod Headers
 pub mod HeldEnds

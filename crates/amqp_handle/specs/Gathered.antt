@@ -1,6 +1,7 @@
--- What is gathered of the events of an end that lends. Read before: these events (`Lent.Alike` of `amqp_model`).
-use Rattle.std.specs.Prelude.{◌≡◌, ◌≢◌, ◌<◌, ◌-◌, ◌+◌, ◌++◌, cond, min, Bool, true, false, nat_eq, ℕ, List, [], length}
-use Rattle.std.specs.Prelude.{Option, Some, None, slice_get, slice_set}
+-- What is gathered of the events of an end that lends, and what is told of them. Read before: these events
+-- (`Lent.Alike` of `amqp_model`).
+use Rattle.std.specs.Prelude.{◌≡◌, ◌≢◌, ◌<◌, ◌-◌, ◌+◌, ◌++◌, cond, min, Bool, true, false, nat_eq, ℕ, List, [], ◌∷◌}
+use Rattle.std.specs.Prelude.{length, Option, Some, None, slice_get}
 use Rattle.std.specs.declared.hash.FoldHasher.{FoldHasher}
 use Rattle.std.specs.declared.hash.BuildHasherDefault.{BuildHasherDefault}
 use Rattle.std.specs.HashMap.{get, HashMap}
@@ -8,15 +9,11 @@ use Rattle.amqp_method.specs.Encoding.{EncodesMethod}
 use Rattle.amqp_method.specs.Properties.{header, EncodesHeader}
 use Rattle.amqp_model.specs.End.Events as events
 use Rattle.amqp_model.specs.Lent.Alike.{LentEvent, WithoutContent, Begins, Heads, Part, Other}
-use Rattle.amqp_channel.specs.declared.events.Event.{Event}
-use Rattle.amqp_channel.specs.Events.EventView.{event_there}
-use Rattle.amqp_core.specs.Stream.EventRefOwned.{IsOwned}
+use Rattle.amqp_core.specs.Stream.EventRefView.{event_ref_view}
+use Rattle.amqp_handle.specs.declared.gathering.Gathered.{Gathered}
+use Rattle.amqp_handle.specs.declared.gathering.Gathered.TheVariants as gathered
 use Rattle.amqp_handle.specs.declared.gathering.Gathering.{Gathering}
 use Rattle.amqp_handle.specs.declared.gathering.Parts.{Parts}
-use Rattle.amqp_handle.specs.declared.gathering.Place.{Place}
-use Rattle.amqp_handle.specs.declared.gathering.Said.{Said}
-use Rattle.amqp_handle.specs.declared.gathering.Said.TheVariants.{Nothing, Message}
-use Rattle.amqp_handle.specs.declared.gathering.Said.TheVariants as said
 
 -- the contents that stand aside, by their channels
 abbrev pub Aside : Type 0
@@ -137,43 +134,44 @@ Added old channel part new =
 
 -- ---- the places
 
--- this is said at the place, whose octets stay, and nothing else changes
-pub record SaysAt (old : Gathering) (place : ℕ) (told : Said) (new : Gathering) : Type 0 where
-  pub before : Place
-  pub found : slice_get old.places.items place ≡ Some before
-  pub says : new.places.items ≡ slice_set old.places.items place (record before { said = told })
+-- those before this one stay
+abbrev pub StaysBefore : (place : ℕ) → (old new : List Parts) → Type 0
+StaysBefore place old new =
+    (at : ℕ) (there : Parts) → at < place → slice_get old at ≡ Some there → slice_get new at ≡ Some there
+
+-- this one is there, and nothing but places changes
+pub record MakesPlaces (old : Gathering) (place : ℕ) (new : Gathering) : Type 0 where
+  pub within : place < length new.places.items
   pub rest : new ≡ record old { places = new.places }
 
--- a method without content is said there, and it has this payload
-pub record SaysMethod (old : Gathering) (place channel : ℕ) (payload : List ℕ) (new : Gathering) : Type 0 where
-  pub there : Place
-  pub said_is : there.said ≡ Message channel false
-  pub octets : there.parts.method.items ≡ payload
-  pub within : place < length old.places.items
-  pub says : new.places.items ≡ slice_set old.places.items place there
-  pub rest : new ≡ record old { places = new.places }
-
--- the content at hand is whole: it is said there, and is no longer coming
-pub record Finishes (old : Gathering) (place channel : ℕ) (new : Gathering) : Type 0 where
-  pub within : place < length old.places.items
-  pub says :
-      new.places.items
-      ≡ slice_set old.places.items place (record { said = Message channel true; parts = old.at_hand })
+-- the content at hand is no longer coming
+pub record IsAway (old new : Gathering) : Type 0 where
   pub none : new.current ≡ None
   pub aside : new.aside ≡ old.aside
   pub counted : counts new ≡ without old (Some old.at_hand)
   pub mark : new.is_lost ≡ old.is_lost
 
--- the last part of the body of the content on the channel comes, and then it is whole
-pub record AddedLast (old : Gathering) (place channel : ℕ) (part : List ℕ) (new : Gathering) : Type 0 where
-  pub between : Gathering
-  pub added : Added old channel part between
-  pub finishes : Finishes between place channel new
+-- it has the place
+pub record PutsAway (old : Gathering) (place : ℕ) (new : Gathering) : Type 0 where
+  pub there : slice_get new.places.items place ≡ Some old.at_hand
+  pub away : IsAway old new
 
--- it is, or nothing is said
-abbrev pub FinishesIf : (whole : Bool) → (old : Gathering) → (place channel : ℕ) → (new : Gathering) → Type 0
-FinishesIf true old place channel new = Finishes old place channel new
-FinishesIf false old place channel new = SaysAt old place Nothing new
+-- the octets that came of a body, or those that it has beside them, where none came
+abbrev pub joined : (came : List ℕ) → (last : List ℕ) → List ℕ
+joined [] last = last
+joined (octet ∷ came) last = octet ∷ came
+
+-- The last part of a body comes. What came of the content on the channel has the place, and its body is what came
+-- there, or this last part.
+pub record AddsLast (old : Gathering) (place channel : ℕ) (part last : List ℕ) (new : Gathering) : Type 0 where
+  pub between : Gathering
+  pub here : IsAtHand old channel between
+  pub there : Parts
+  pub found : slice_get new.places.items place ≡ Some there
+  pub method : there.method ≡ between.at_hand.method
+  pub header_is : there.header ≡ between.at_hand.header
+  pub body : joined there.body.items last ≡ between.at_hand.body.items ++ part
+  pub away : IsAway between new
 
 -- ---- what ends
 
@@ -203,44 +201,64 @@ abbrev pub EndsWith : LentEvent → (old new : Gathering) → Type 0
 EndsWith (Other event) old new = Ends event old new
 EndsWith event old new = new ≡ old
 
--- ---- an event
+-- ---- what is told
 
--- an event is said, or nothing
-abbrev pub SaysEvent : Option Event → Said → Type 0
-SaysEvent None told = told ≡ Nothing
-SaysEvent (Some event) (said.Other boxed) = boxed.value ≡ event
-SaysEvent (Some event) told = ⊥
+-- nothing, an event as the end lends it, or a content that is whole
+pub data Told : Type 0 where
+  Nothing : Told
+  AsLent : LentEvent → Told
+  Whole : (channel : ℕ) → (method_octets header_octets body : List ℕ) → Told
 
--- an event is said as it is, but for one whose text is too long for any end to lend it
-pub record SaysOwned (event : LentEvent) (old : Gathering) (place : ℕ) (new : Gathering) : Type 0 where
-  pub owned : Option Event
-  pub is_owned : IsOwned event (event_there owned)
-  pub told : Said
-  pub told_is : SaysEvent owned told
-  pub says : SaysAt old place told new
+-- of an event, with what has the place
+abbrev pub told_at : Gathered → Option Parts → Told
+told_at gathered.Nothing there = Nothing
+told_at (gathered.Event event) there = AsLent (event_ref_view event)
+told_at (gathered.Whole channel last) there =
+    Whole channel (method_in there) (header_in there) (joined (body_in there) last.now)
 
--- what it ends is let go, and it is said
-pub record TakesOther (event : LentEvent) (old : Gathering) (place : ℕ) (new : Gathering) : Type 0 where
-  pub between : Gathering
-  pub ends : EndsWith event old between
-  pub says : SaysOwned event between place new
+-- a content has the place
+abbrev pub IsThere : Gathered → Option Parts → Type 0
+IsThere gathered.Nothing there = Unit {0}
+IsThere (gathered.Event event) there = Unit {0}
+IsThere (gathered.Whole channel last) None = ⊥
+IsThere (gathered.Whole channel last) (Some parts) = Unit {0}
 
--- What is told is said at the place: a content once it is whole, with the payloads of its method and of its header as
--- they came, and with the parts of its body one after the other.
-abbrev pub GathersEvent : LentEvent → (old : Gathering) → (place : ℕ) → (new : Gathering) → Type 0
-GathersEvent (WithoutContent channel method) old place new =
-    (payload : List ℕ) × EncodesMethod method payload × SaysMethod old place channel payload new
-GathersEvent (Begins channel method) old place new =
-    (payload : List ℕ) × EncodesMethod method payload × (between : Gathering) × Begun old channel payload between
-    × SaysAt between place Nothing new
-GathersEvent (Heads channel size properties whole) old place new =
+-- The content on the channel is whole with this last part: it is told, with its parts one after the other, and is no
+-- longer coming.
+pub record Finishes (old : Gathering) (channel : ℕ) (last : List ℕ) (told : Told) (new : Gathering) : Type 0 where
+  pub told_is :
+      told ≡ Whole channel old.at_hand.method.items old.at_hand.header.items (old.at_hand.body.items ++ last)
+  pub away : IsAway old new
+
+-- it is, or nothing is told
+abbrev pub FinishesIf : (whole : Bool) → (old : Gathering) → (channel : ℕ) → (told : Told) → (new : Gathering) → Type 0
+FinishesIf true old channel told new = Finishes old channel [] told new
+FinishesIf false old channel told new = (told ≡ Nothing) × (new ≡ old)
+
+-- a part of a body comes, and the content is whole with it or isn't
+abbrev pub AddsIf : (whole : Bool) → (old : Gathering) → (channel : ℕ) → (part : List ℕ) → (told : Told)
+    → (new : Gathering) → Type 0
+AddsIf true old channel part told new =
+    (between : Gathering) × IsAtHand old channel between × Finishes between channel part told new
+AddsIf false old channel part told new = (told ≡ Nothing) × Added old channel part new
+
+-- A content is told once it is whole, with the payloads of its method and of its header as they came, and with the
+-- parts of its body one after the other. Any other event is told as it is, and what it ends is let go.
+abbrev pub Tells : LentEvent → (old : Gathering) → Told → (new : Gathering) → Type 0
+Tells (WithoutContent channel method) old told new = (told ≡ AsLent (WithoutContent channel method)) × (new ≡ old)
+Tells (Begins channel method) old told new =
+    (told ≡ Nothing) × (payload : List ℕ) × EncodesMethod method payload × Begun old channel payload new
+Tells (Heads channel size properties whole) old told new =
     (payload : List ℕ) × EncodesHeader (header size properties) payload × (between : Gathering)
-    × Headed old channel payload between × FinishesIf whole between place channel new
-GathersEvent (Part channel octets whole) old place new =
-    (between : Gathering) × Added old channel octets between × FinishesIf whole between place channel new
-GathersEvent (Other event) old place new = TakesOther (Other event) old place new
+    × Headed old channel payload between × FinishesIf whole between channel told new
+Tells (Part channel octets whole) old told new = AddsIf whole old channel octets told new
+Tells (Other event) old told new = (told ≡ AsLent (Other event)) × Ends event old new
 
--- or nothing is, where nothing is told
-abbrev pub Gathers : Option LentEvent → (old : Gathering) → (place : ℕ) → (new : Gathering) → Type 0
-Gathers None old place new = SaysAt old place Nothing new
-Gathers (Some event) old place new = GathersEvent event old place new
+-- nothing is told where there is no event
+abbrev pub TellsMaybe : Option LentEvent → (old : Gathering) → Told → (new : Gathering) → Type 0
+TellsMaybe None old told new = (told ≡ Nothing) × (new ≡ old)
+TellsMaybe (Some event) old told new = Tells event old told new
+
+-- this is told, with a content that is whole at the place
+abbrev pub Gathers : Option LentEvent → (old : Gathering) → (place : ℕ) → Gathered → (new : Gathering) → Type 0
+Gathers event old place told new = TellsMaybe event old (told_at told (slice_get new.places.items place)) new

@@ -1,14 +1,14 @@
-//! What is gathered of the events of an end that lends: contents as they come, and events that are kept.
+//! What is gathered of the events of an end that lends: contents as they come.
 //!
-//! The content of one channel is at hand, and those of other channels stand aside, since the frames of a content mostly
-//! follow one another. What is whole changes places with the octets of the event before it, so that most contents take
-//! no memory.
-ghost use Rattle.std.specs.Prelude.{◌≡◌, ◌<◌, ◌++◌, [], ℕ, None, false, length, OnOk};
+//! The content of one channel is at hand, and those of other channels stand aside, since the frames of a content
+//! mostly follow one another. What is whole changes places with the octets of a content before it, so that most
+//! contents take no memory. Nothing else is kept: any other event is told as the end lends it, and so is the last part
+//! of a body, where it is all of the body.
+ghost use Rattle.std.specs.Prelude.{◌≡◌, ◌<◌, ◌++◌, [], ℕ, None, Some, false, length, slice_get, IfOk, OnOk};
 ghost use Rattle.std.specs.HashMap.{IsUnchanged};
 ghost use Rattle.amqp_core.specs.Stream.EventRefView.{event_ref_there, event_ref_view};
-ghost use Rattle.amqp_handle.specs.Gathered.{coming, head_length, Added, AddedLast, Begun, EndsWith, Finishes, FinishesIf, Gathers, GathersEvent, Headed, IsAside, IsAtHand, IsKeptAside, IsTakenAside, LetsAllGo, LetsGo, SaysAt, SaysMethod, SaysOwned, TakesOther};
+ghost use Rattle.amqp_handle.specs.Gathered.{coming, head_length, Added, AddsLast, Begun, EndsWith, Gathers, Headed, IsAside, IsAtHand, IsKeptAside, IsTakenAside, IsThere, LetsAllGo, LetsGo, MakesPlaces, PutsAway, StaysBefore};
 
-use amqp_channel::Event;
 use amqp_core::EventRef;
 use indexmap::IndexMap;
 use std::alloc::Global;
@@ -63,33 +63,22 @@ impl Parts {
     }
 }
 
-/// What an end told.
-#[derive(Drop)]
-pub enum Said {
+/// What is told of an event.
+#[derive(Clone, Copy)]
+pub enum Gathered<'a> {
+    /// Nothing: it is kept until its content is whole.
     Nothing,
-    /// A message on this channel, and whether it has a content.
-    Message(u16, bool),
-    /// Any other event.
-    Other(Box<Event>),
+    /// The event itself.
+    Event(EventRef<'a>),
+    /// The content on this channel, which is whole. What came of it before has the place that was given. The octets are
+    /// all of its body, or none, where a part of it came before.
+    Whole(u16, &'a [u8]),
 }
 
-/// The place of what an end told. The octets are those of a message.
-pub struct Place {
-    pub said: Said,
-    pub parts: Parts,
-}
-
-/// Written out, so that no crate above proves again of each event that it can be dropped.
-impl Drop for Place {
-    fn drop(self) {
-        let Place { said: _, parts: _ } = self;
-    }
-}
-
-/// The contents that are coming to an end, and the places of what it told.
+/// The contents that are coming to an end, and the places of those that are whole.
 #[derive(Drop)]
 pub struct Gathering {
-    pub places: Vec<Place>,
+    pub places: Vec<Parts>,
     /// The channel whose content is at hand, if one is.
     pub current: Option<u16>,
     /// What has come of that, or room for the next.
@@ -177,7 +166,8 @@ impl Gathering {
     /// Puts aside what is at hand.
     #[inline(never)]
     fn stand_aside(&mut self, alloc: Global) -> Result<(), OutOfMemory>
-        ensures { OnOk result (IsAside self.old self.new) }
+        ensures aside { OnOk result (IsAside self.old self.new) }
+        ensures places { self.new.places ≡ self.old.places }
     {
         let Some(number) = self.current else {
             return Ok(());
@@ -206,7 +196,8 @@ impl Gathering {
     /// Takes the content of a channel at hand.
     #[inline(always)]
     fn turn_to(&mut self, alloc: Global, channel: u16) -> Result<(), OutOfMemory>
-        ensures { OnOk result (IsAtHand self.old channel self.new) }
+        ensures here { OnOk result (IsAtHand self.old channel self.new) }
+        ensures places { self.new.places ≡ self.old.places }
     {
         if self.current == Some(channel) {
             return Ok(());
@@ -219,7 +210,8 @@ impl Gathering {
     /// A method begins a content.
     #[inline(never)]
     fn begin(&mut self, alloc: Global, channel: u16, payload: &[u8]) -> Result<(), OutOfMemory>
-        ensures { OnOk result (Begun self.old channel payload.now self.new) }
+        ensures comes { OnOk result (Begun self.old channel payload.now self.new) }
+        ensures places { self.new.places ≡ self.old.places }
     {
         self.turn_to(alloc, channel)?;
         self.heads = self.heads.saturating_sub(self.at_hand.head_length());
@@ -232,7 +224,8 @@ impl Gathering {
     /// Its header comes.
     #[inline(never)]
     fn head(&mut self, alloc: Global, channel: u16, payload: &[u8]) -> Result<(), OutOfMemory>
-        ensures { OnOk result (Headed self.old channel payload.now self.new) }
+        ensures comes { OnOk result (Headed self.old channel payload.now self.new) }
+        ensures places { self.new.places ≡ self.old.places }
     {
         self.turn_to(alloc, channel)?;
         self.heads = self.heads.saturating_sub(self.at_hand.header.len());
@@ -244,89 +237,65 @@ impl Gathering {
     /// A part of its body comes.
     #[inline(never)]
     fn add(&mut self, alloc: Global, channel: u16, part: &[u8]) -> Result<(), OutOfMemory>
-        ensures { OnOk result (Added self.old channel part.now self.new) }
+        ensures comes { OnOk result (Added self.old channel part.now self.new) }
+        ensures places { self.new.places ≡ self.old.places }
     {
         self.turn_to(alloc, channel)?;
         self.bodies = self.bodies.saturating_add(part.len());
         append(&mut self.at_hand.body, part)
     }
 
-    /// Says something at a place.
-    #[inline(always)]
-    fn say(&mut self, place: usize, said: Said)
-        requires { place < length self.old.places.items }
-        ensures { SaysAt self.old place said self.new }
+    /// Makes places up to this one.
+    #[inline(never)]
+    fn make_places(&mut self, alloc: Global, place: usize) -> Result<(), OutOfMemory>
+        ensures made { OnOk result (MakesPlaces self.old place self.new) }
+        ensures stays { StaysBefore place self.old.places.items self.new.places.items }
     {
-        self.places[place].said = said;
+        while self.places.len() <= place {
+            let Ok(()) = self.places.push(Parts::new(alloc)) else {
+                return Err(OutOfMemory);
+            };
+        }
+        Ok(())
     }
 
-    /// Says at a place that the content at hand is whole.
+    /// Gives what came of the content at hand a place. The octets that are there change places with it.
     #[inline(always)]
-    fn finish(&mut self, place: usize, channel: u16)
-        requires { place < length self.old.places.items }
-        ensures { Finishes self.old place channel self.new }
+    fn put_away(&mut self, alloc: Global, place: usize) -> Result<(), OutOfMemory>
+        ensures away { OnOk result (PutsAway self.old place self.new) }
+        ensures stays { StaysBefore place self.old.places.items self.new.places.items }
     {
+        if place >= self.places.len() {
+            self.make_places(alloc, place)?;
+        }
         self.heads = self.heads.saturating_sub(self.at_hand.head_length());
         self.bodies = self.bodies.saturating_sub(self.at_hand.body.len());
         self.current = None;
-        let there = &mut self.places[place];
-        there.said = Said::Message(channel, true);
-        mem::swap(&mut there.parts, &mut self.at_hand);
+        mem::swap(&mut self.places[place], &mut self.at_hand);
+        Ok(())
     }
 
-    /// The last part of its body comes, and it is said at a place.
-    ///
-    /// The octets that are there change places first: what was just written isn't read again so soon. Out of memory,
-    /// nothing is said there.
-    #[inline(never)]
-    fn add_last(
+    /// The last part of a body comes: what came before has the place then. Where that has a part of the body, the last
+    /// one is appended there.
+    #[inline(always)]
+    fn add_last<'a>(
         &mut self,
         alloc: Global,
         place: usize,
         channel: u16,
-        part: &[u8],
-    ) -> Result<(), OutOfMemory>
-        requires { place < length self.old.places.items }
-        ensures { OnOk result (AddedLast self.old place channel part.now self.new) }
+        part: &'a [u8],
+    ) -> Result<&'a [u8], OutOfMemory>
+        ensures last { IfOk result (λ last. AddsLast self.old place channel part.now last.now self.new) }
+        ensures stays { StaysBefore place self.old.places.items self.new.places.items }
     {
         self.turn_to(alloc, channel)?;
-        self.heads = self.heads.saturating_sub(self.at_hand.head_length());
-        self.current = None;
-        let there = &mut self.places[place];
-        there.said = Said::Nothing;
-        mem::swap(&mut there.parts, &mut self.at_hand);
-        append(&mut there.parts.body, part)?;
-        there.said = Said::Message(channel, true);
-        let length = there.parts.body.len();
-        self.bodies = self.bodies.saturating_add(part.len());
-        self.bodies = self.bodies.saturating_sub(length);
-        Ok(())
-    }
-
-    /// Says so if it is whole, and else nothing.
-    #[inline(always)]
-    fn finish_if(&mut self, whole: bool, place: usize, channel: u16)
-        requires { place < length self.old.places.items }
-        ensures { FinishesIf whole self.old place channel self.new }
-    {
-        if whole {
-            self.finish(place, channel);
-        } else {
-            self.say(place, Said::Nothing);
+        self.put_away(alloc, place)?;
+        let body = &mut self.places[place].body;
+        if body.is_empty() {
+            return Ok(part);
         }
-    }
-
-    /// Says a method without content at a place.
-    #[inline(never)]
-    fn say_method(&mut self, place: usize, channel: u16, payload: &[u8]) -> Result<(), OutOfMemory>
-        requires { place < length self.old.places.items }
-        ensures { OnOk result (SaysMethod self.old place channel payload.now self.new) }
-    {
-        let there = &mut self.places[place];
-        there.said = Said::Message(channel, false);
-        there.parts.method.clear();
-        append(&mut there.parts.method, payload)?;
-        Ok(())
+        append(body, part)?;
+        Ok(&part[..0])
     }
 
     /// Lets go what has come on a channel.
@@ -355,33 +324,8 @@ impl Gathering {
         self.bodies = 0;
     }
 
-    /// Says an event that is kept as it is.
-    fn say_other(
-        &mut self,
-        alloc: Global,
-        place: usize,
-        event: EventRef<'_>,
-    ) -> Result<(), OutOfMemory>
-        requires { place < length self.old.places.items }
-        ensures { OnOk result (SaysOwned (event_ref_view event.entry) self.old place self.new) }
-    {
-        match event.to_owned(alloc) {
-            Ok(Some(event)) => {
-                let Ok(event) = Box::new(alloc, event) else {
-                    return Err(OutOfMemory);
-                };
-                self.say(place, Said::Other(event));
-                Ok(())
-            }
-            Ok(None) => {
-                self.say(place, Said::Nothing);
-                Ok(())
-            }
-            Err(_) => Err(OutOfMemory),
-        }
-    }
-
     /// Lets go the contents that an event ends.
+    #[inline(never)]
     fn end_with(&mut self, event: EventRef<'_>)
         ensures { EndsWith (event_ref_view event.entry) self.old self.new }
     {
@@ -393,78 +337,65 @@ impl Gathering {
         }
     }
 
-    /// An event that is no part of a message.
-    #[inline(never)]
-    fn take_other(
-        &mut self,
-        alloc: Global,
-        place: usize,
-        event: EventRef<'_>,
-    ) -> Result<(), OutOfMemory>
-        requires { place < length self.old.places.items }
-        ensures { OnOk result (TakesOther (event_ref_view event.entry) self.old place self.new) }
-    {
-        self.end_with(event);
-        self.say_other(alloc, place, event)?;
-        Ok(())
-    }
-
-    /// Says an event at a place, a content once it is whole.
+    /// What is told of an event: a content once it is whole, at this place.
     #[inline(always)]
-    pub fn take_event(
+    pub fn take_event<'a>(
         &mut self,
         alloc: Global,
         place: usize,
-        event: EventRef<'_>,
-    ) -> Result<(), OutOfMemory>
-        requires { place < length self.old.places.items }
-        ensures { OnOk result (GathersEvent (event_ref_view event.entry) self.old place self.new) }
+        event: EventRef<'a>,
+    ) -> Result<Gathered<'a>, OutOfMemory>
+        ensures tells { IfOk result (λ told. Gathers (Some (event_ref_view event.entry)) self.old place told self.new) }
+        ensures there { IfOk result (λ told. IsThere told (slice_get self.new.places.items place)) }
+        ensures stays { StaysBefore place self.old.places.items self.new.places.items }
     {
         match event {
             EventRef::Part(channel, part, whole) => {
                 if whole {
-                    self.add_last(alloc, place, channel, part)?;
-                    return Ok(());
+                    let last = self.add_last(alloc, place, channel, part)?;
+                    return Ok(Gathered::Whole(channel, last));
                 }
                 self.add(alloc, channel, part)?;
-                self.say(place, Said::Nothing);
-                Ok(())
+                Ok(Gathered::Nothing)
             }
             EventRef::Begins(channel, method) => {
                 self.begin(alloc, channel, method.payload())?;
-                self.say(place, Said::Nothing);
-                Ok(())
+                Ok(Gathered::Nothing)
             }
             EventRef::Heads(channel, header, whole) => {
-                self.head(alloc, channel, header.payload())?;
-                self.finish_if(whole, place, channel);
-                Ok(())
+                let payload = header.payload();
+                self.head(alloc, channel, payload)?;
+                if whole {
+                    self.put_away(alloc, place)?;
+                    return Ok(Gathered::Whole(channel, &payload[..0]));
+                }
+                Ok(Gathered::Nothing)
             }
             EventRef::Method(channel, method) => {
-                self.say_method(place, channel, method.payload())?;
-                Ok(())
+                Ok(Gathered::Event(EventRef::Method(channel, method)))
             }
-            other => self.take_other(alloc, place, other),
+            other => {
+                self.end_with(other);
+                Ok(Gathered::Event(other))
+            }
         }
     }
 
-    /// Says at a place what an end tells, if it tells something. Out of memory, what is said there is not told.
+    /// What is told of an event, if there is one.
     #[inline(never)]
-    pub fn take(
+    pub fn take<'a>(
         &mut self,
         alloc: Global,
         place: usize,
-        event: Option<EventRef<'_>>,
-    ) -> Result<(), OutOfMemory>
-        requires { place < length self.old.places.items }
-        ensures { OnOk result (Gathers (event_ref_there event.entry) self.old place self.new) }
+        event: Option<EventRef<'a>>,
+    ) -> Result<Gathered<'a>, OutOfMemory>
+        ensures tells { IfOk result (λ told. Gathers (event_ref_there event.entry) self.old place told self.new) }
+        ensures there { IfOk result (λ told. IsThere told (slice_get self.new.places.items place)) }
+        ensures stays { StaysBefore place self.old.places.items self.new.places.items }
     {
         match event {
             Some(event) => self.take_event(alloc, place, event),
-            None => {
-                self.say(place, Said::Nothing);
-                Ok(())
-            }
+            None => Ok(Gathered::Nothing),
         }
     }
 }

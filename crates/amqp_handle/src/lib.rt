@@ -16,7 +16,7 @@ mod slot;
 pub use crate::content::Content;
 pub use crate::end_slot::EndSlot;
 pub use crate::faults::HandleFault;
-pub use crate::gathering::{Gathering, OutOfMemory, Parts, Place, Said};
+pub use crate::gathering::{Gathered, Gathering, OutOfMemory, Parts};
 pub use crate::held::Held;
 pub use crate::kept::{HeldEnd, Kept};
 pub use crate::slot::Slot;

@@ -38,24 +38,26 @@ static void close_ends(void)
 	CHECK(mt_end_close(&server) == MT_OK);
 }
 
-/* Carries up to `most` octets of what an end has to say to the other, in memory of its own. The event of them is the
- * answer, if they are the last of a frame; `carried` says how many there were. */
+/* What was carried last. */
+static uint8_t *last_piece;
+
+/* Carries up to `most` octets of what an end has to say to the other, in memory of its own that stays until the next
+ * call. The event of them is the answer, if something is told of them; `carried` says how many there were. */
 static uint32_t carry(mt_end *from, mt_end *to, size_t most, mt_event *event, size_t *carried)
 {
 	mt_octets output;
-	uint8_t *piece;
 	uint32_t status;
 
 	CHECK(mt_end_output(from, &output) == MT_OK);
 	*carried = output.length < most ? output.length : most;
-	piece = malloc(*carried + 1);
-	CHECK(piece != NULL);
-	memcpy(piece, output.at, *carried);
-	status = mt_end_feed(to, piece, *carried, event);
+	free(last_piece);
+	last_piece = malloc(*carried + 1);
+	CHECK(last_piece != NULL);
+	memcpy(last_piece, output.at, *carried);
+	status = mt_end_feed(to, last_piece, *carried, event);
 	if (status == MT_OK)
 		*carried = event->taken;
 	CHECK(mt_end_wrote(from, *carried) == MT_OK);
-	free(piece);
 	return status;
 }
 
@@ -183,10 +185,9 @@ static void send_content(size_t most)
 		CHECK(carry(&client, &server, most, &event, &carried) == MT_OK && carried > 0);
 		CHECK(mt_end_pending(&server, &pending) == MT_OK && pending < 8192);
 	} while (event.kind == MT_EVENT_NONE);
-	CHECK(gathered >= 8184);
+	/* a piece that has all of the content is taken at once */
+	CHECK(gathered >= 8184 || most > sizeof octets);
 	CHECK(mt_end_gathered_in_all(&server, &gathered) == MT_OK && gathered == 0);
-	expect_publish(&event, "orders", body);
-	CHECK(mt_end_event(&server, &event) == MT_OK);
 	expect_publish(&event, "orders", body);
 	close_ends();
 }
@@ -228,8 +229,8 @@ static void gather_two(size_t most)
 		greatest = in_all > greatest ? in_all : greatest;
 	} while (carried > 0);
 	CHECK(told[1] == 2 && told[2] == 2);
-	/* both were under way at once */
-	CHECK(greatest > 20000 && in_all == 0);
+	/* both were under way at once: a piece is taken up to the end of one of them */
+	CHECK(greatest > (most < 8192 ? 20000 : 16000) && in_all == 0);
 	close_ends();
 }
 
@@ -429,7 +430,6 @@ static void lend_content(size_t most, size_t capacity)
 		CHECK(mt_end_kept(&server, &kept) == MT_OK && mt_end_pending(&server, &pending) == MT_OK && kept == pending);
 	}
 	CHECK(came == sizeof octets && whole == 1);
-	CHECK(mt_end_event(&server, &events[0]) == MT_NO_ROOM);
 	free(stream);
 	CHECK(mt_end_close_channel_for(&server, 1, 404, mt_text("no queue"), MT_BASIC_PUBLISH) == MT_OK);
 	settle(most, seen);
@@ -494,6 +494,62 @@ static void take_batches(void)
 		CHECK(mt_end_feed(&server, HEARTBEAT, 8, &events[0]) == MT_END_FAILED);
 	}
 	blame_heartbeat();
+	close_ends();
+}
+
+/* Contents of one frame and of three, in turn on two channels, taken by batches in pieces of at most so many octets. A
+ * body that came in one frame of the piece lies there. */
+static void mix_batches(size_t most, size_t capacity)
+{
+	static uint8_t bodies[3][20000];
+	static const size_t LENGTHS[] = {0, 20000, 100};
+	unsigned seen[16] = {0}, told[3] = {0};
+	mt_event events[8];
+	mt_octets output;
+	mt_message message;
+	uint8_t *stream;
+	size_t length, count, taken, in_piece = 0;
+	uint16_t channel, code = 1;
+
+	shake_hands(SIZE_MAX);
+	CHECK(mt_end_open_channel(&client, &channel) == MT_OK && channel == 2);
+	settle(SIZE_MAX, seen);
+	for (int sent = 0; sent < 3; ++sent)
+		for (channel = 1; channel <= 2; ++channel) {
+			memset(bodies[channel], channel, sizeof bodies[channel]);
+			message = publish(channel == 1 ? "one" : "two", mt_octets_at(bodies[channel], LENGTHS[channel]));
+			CHECK(mt_end_send(&client, channel, &message) == MT_OK);
+		}
+	CHECK(mt_end_output(&client, &output) == MT_OK);
+	length = output.length;
+	stream = malloc(length);
+	CHECK(stream != NULL);
+	memcpy(stream, output.at, length);
+	CHECK(mt_end_wrote(&client, length) == MT_OK);
+	for (size_t at = 0; at < length; at += taken) {
+		size_t left = length - at < most ? length - at : most;
+		uint8_t *piece = malloc(left);
+
+		CHECK(piece != NULL);
+		memcpy(piece, stream + at, left);
+		CHECK(mt_end_feed_batch(&server, piece, left, events, capacity, &count, &taken, &code) == MT_OK);
+		CHECK(taken > 0 && taken <= left && count <= capacity && code == 0);
+		for (size_t i = 0; i < count; ++i) {
+			CHECK(events[i].taken <= taken && (i == 0 || events[i].taken > events[i - 1].taken));
+			channel = events[i].channel;
+			CHECK(channel == 1 || channel == 2);
+			++told[channel];
+			in_piece += events[i].body.at >= piece && events[i].body.at < piece + left;
+			events[i].channel = 1;
+			expect_publish(&events[i], channel == 1 ? "one" : "two",
+				       mt_octets_at(bodies[channel], LENGTHS[channel]));
+		}
+		free(piece);
+	}
+	CHECK(told[1] == 3 && told[2] == 3);
+	CHECK(in_piece == (most == SIZE_MAX ? 3 : most < 100 ? 0 : in_piece));
+	CHECK(mt_end_gathered_in_all(&server, &count) == MT_OK && count == 0);
+	free(stream);
 	close_ends();
 }
 
@@ -681,7 +737,6 @@ static uint32_t use_all(mt_end *end)
 	char line[16];
 	uint32_t status = mt_end_feed(end, method_room, 1, &events[0]);
 
-	CHECK(mt_end_event(end, &events[0]) == status);
 	CHECK(mt_end_feed_batch(end, method_room, 1, events, 2, &count, &taken, NULL) == status);
 	CHECK(mt_end_output(end, &octets) == status);
 	CHECK(mt_end_wrote(end, 0) == status);
@@ -874,6 +929,10 @@ int main(void)
 	gather_two(SIZE_MAX);
 	gather_half();
 	take_batches();
+	for (size_t most = 1; most <= 20; ++most)
+		mix_batches(most * most, 1 + most % 8);
+	mix_batches(SIZE_MAX, 1);
+	mix_batches(SIZE_MAX, 8);
 	converse();
 	refuse();
 	misuse();
@@ -884,6 +943,7 @@ int main(void)
 	decide(true);
 	decide(false);
 	run_short();
+	free(last_piece);
 	printf("ends: %lu checks\n", checked);
 	return 0;
 }

@@ -236,10 +236,8 @@ pub struct Taken<'a> {
     pub event: Option<Event<'a>>,
 }
 
-/// Why an end takes no more octets. Where the other end broke the protocol, `code` is that of the close which was put.
-///
-/// Where memory for an event was refused ([`Status::OUT_OF_MEMORY`]), so many octets were taken all the same, and
-/// [`End::event`] gives the event.
+/// Why an end takes no more octets, of which so many were taken. Where the other end broke the protocol, `code` is that of
+/// the close which was put.
 #[derive(Clone, Copy, PartialEq, Eq, Debug)]
 pub struct EndFault {
     pub status: Status,
@@ -308,8 +306,8 @@ impl End {
         &mut self.handle.0
     }
 
-    /// Takes octets up to the end of the next frame, or of the protocol header at a server that awaits it. Where the
-    /// piece ends before that, all of it is taken.
+    /// Takes octets up to the end of the next frame of which something is told. Where the piece ends before that, all of it
+    /// is taken. An end that lends tells of each frame, and any other of a content once it is whole.
     pub fn feed<'a>(&'a mut self, piece: &'a [u8]) -> Result<Taken<'a>, EndFault> {
         let mut event = sys::Event::NONE;
         // SAFETY: the piece has so many octets, and `event` lies apart from it.
@@ -326,17 +324,9 @@ impl End {
         })
     }
 
-    /// The event of the last [`End::feed`] once more. An end that lends keeps none.
-    pub fn event(&mut self) -> Result<Option<Event<'_>>, Status> {
-        let mut event = sys::Event::NONE;
-        // SAFETY: `event` lies in a place of its own.
-        Status::check(unsafe { sys::mt_end_event(&mut self.handle.0, &mut event) })?;
-        // SAFETY: the end lends it until it is used again.
-        Ok(unsafe { Event::told(&event) })
-    }
-
     /// Takes octets as [`End::feed`] does, again and again, up to so many events, and hands each of them on. The answer
-    /// is how many octets were taken. At a fault the events before it were handed on.
+    /// is how many octets were taken: it stops after a frame that began in an earlier piece, too. At a fault the events
+    /// before it were handed on.
     pub fn feed_batch<const N: usize>(
         &mut self,
         piece: &[u8],

@@ -323,7 +323,6 @@ extern "C" {
     pub fn mt_end_open_server(end: *mut Handle, settings: *const ServerSettings) -> u32;
     pub fn mt_end_close(end: *mut Handle) -> u32;
     pub fn mt_end_feed(end: *mut Handle, piece: *const u8, length: usize, event: *mut Event) -> u32;
-    pub fn mt_end_event(end: *mut Handle, event: *mut Event) -> u32;
     pub fn mt_end_feed_batch(
         end: *mut Handle,
         piece: *const u8,

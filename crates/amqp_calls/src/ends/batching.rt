@@ -1,18 +1,20 @@
-//! The events of a piece that is fed to an end whose events lend, all in one call.
+//! The events of a piece that is fed to an end, all in one call: here of one whose events lend.
 ghost use Rattle.std.specs.Prelude.{◌≡◌, ◌<◌, length};
 ghost use Rattle.std.specs.Borrow.{sem};
 ghost use Rattle.std.specs.Io.BufRead.{Rests};
 ghost use Rattle.amqp_core.specs.Stream.EventRefView.{event_ref_there, event_ref_view};
 ghost use Rattle.amqp_core.specs.contracts.stream.StreamEnd as stream_row;
 ghost use Rattle.amqp_handle.specs.contracts.kept.Kept as kept_row;
-ghost use Rattle.amqp_calls.specs.LentBatches.{BatchAnswer, BatchOne, HasRoom, LendsFrames, RestAnswer, RestKept, ShowsLast, TellsRest};
+ghost use Rattle.amqp_calls.specs.Batches.{BatchOne};
+ghost use Rattle.amqp_calls.specs.LentBatches.{BatchAnswer, HasRoom, LendsFrames, RestAnswer, RestKept, ShowsLast, TellsRest};
 ghost use Rattle.amqp_calls.specs.LentEvents.{TellsEvent};
 
 use crate::ends::events::SeenEvent;
 use crate::ends::feeding::{FedEnd, tell_fault};
+use crate::ends::gathering::gather_batch;
 use crate::ends::lending::{BEGINS, HEADS, Lent, PART, show};
 use amqp_core::{CoreFault, EventRef, Role, Step, StreamEnd};
-use amqp_handle::{HandleFault, Kept};
+use amqp_handle::Kept;
 
 /// An event in its place of a batch, and how many octets of the piece were taken up to its end.
 #[repr(C)]
@@ -24,7 +26,7 @@ pub struct EventPlace<'a> {
 
 /// An event of which nothing is known.
 #[inline(always)]
-fn nothing_seen<'a>(none: &'a [u8]) -> SeenEvent<'a> {
+pub(crate) fn nothing_seen<'a>(none: &'a [u8]) -> SeenEvent<'a> {
     SeenEvent {
         method: none,
         header: none,
@@ -42,7 +44,12 @@ fn nothing_seen<'a>(none: &'a [u8]) -> SeenEvent<'a> {
 
 /// Shows an event in its place. The kinds that come most often write all of it at once.
 #[inline(always)]
-fn show_in<'a>(event: EventRef<'a>, none: &'a [u8], taken: usize, place: &mut EventPlace<'a>)
+pub(crate) fn show_in<'a>(
+    event: EventRef<'a>,
+    none: &'a [u8],
+    taken: usize,
+    place: &mut EventPlace<'a>,
+)
     ensures { TellsEvent (event_ref_view event.entry) place.new.seen × (place.new.taken ≡ taken) }
 {
     place.taken = taken;
@@ -78,6 +85,7 @@ fn show_in<'a>(event: EventRef<'a>, none: &'a [u8], taken: usize, place: &mut Ev
                 method: method.payload(),
                 channel,
                 kind: 3,
+                holds: false,
                 ..nothing_seen(none)
             };
         }
@@ -215,7 +223,7 @@ fn lend_batch<'a, R: Role>(
     tell_rest(answer, &piece[..0], places, fed, count)
 }
 
-/// Feeds an end with a piece, if it lends its events.
+/// Feeds an end with a piece, and shows the events: those that it lends, or those of contents that it gathers.
 #[inline(always)]
 pub fn batch_one<'a, R: Role>(
     kept: &'a mut Kept<StreamEnd<R>>,
@@ -226,8 +234,12 @@ pub fn batch_one<'a, R: Role>(
 ) -> u32
     ensures { BatchOne kept.old piece.now places.old result fed.new count.new places.new }
 {
-    if kept.gathering.is_some() {
-        return HandleFault::OtherKind.number();
+    if kept.gathering.is_none() {
+        return lend_batch(kept, piece, places, fed, count);
     }
-    lend_batch(kept, piece, places, fed, count)
+    let Kept { end, gathering } = kept;
+    match gathering {
+        Some(gathering) => gather_batch(end, gathering, piece, places, fed, count),
+        None => unreachable!(),
+    }
 }

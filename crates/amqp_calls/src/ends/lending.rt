@@ -60,6 +60,7 @@ pub(crate) fn show<'a>(event: EventRef<'a>, out: &mut SeenEvent<'a>)
         EventRef::Method(channel, method) => {
             on_channel(3, channel, out);
             out.method = method.payload();
+            out.holds = false;
         }
         EventRef::Begins(channel, method) => {
             on_channel(BEGINS, channel, out);

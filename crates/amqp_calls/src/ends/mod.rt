@@ -11,6 +11,7 @@ pub mod closing;
 pub mod controlling;
 pub mod events;
 pub mod feeding;
+pub mod gathering;
 pub mod hearing;
 pub mod lending;
 pub mod messages;

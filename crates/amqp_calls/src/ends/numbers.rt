@@ -3,11 +3,10 @@ ghost use Rattle.std.specs.Prelude.{◌≡◌};
 ghost use Rattle.amqp_channel.specs.Events.EventView.{state_view};
 ghost use Rattle.amqp_calls.specs.Blaming.{rule_number};
 ghost use Rattle.amqp_calls.specs.EndAnswers.{state_told};
-ghost use Rattle.amqp_calls.specs.EndNumbers.{ask_status, asked_status, config_status, event_number, phase_number, said_number};
+ghost use Rattle.amqp_calls.specs.EndNumbers.{ask_status, asked_status, config_status, phase_number};
 
-use amqp_core::{AskFault, ChannelState, ConfigFault, Event, Phase, Rule};
+use amqp_core::{AskFault, ChannelState, ConfigFault, Phase, Rule};
 use amqp_frame::FrameFaultKind;
-use amqp_handle::Said;
 
 /// The status of what is wrong with settings is this and its number.
 const CONFIG_FAULTS: u32 = 500;
@@ -61,39 +60,6 @@ pub(crate) fn state_of(state: ChannelState) -> u8
         ChannelState::Opening => 2,
         ChannelState::Open => 3,
         ChannelState::Closing => 4,
-    }
-}
-
-/// The number of an event's kind.
-fn event_of(event: &Event) -> u8
-    ensures { result ≡ event_number event.now }
-{
-    match event {
-        Event::Negotiated(_) => 1,
-        Event::Opened(_) => 2,
-        Event::Told(_, _) => 3,
-        Event::Flow(_, _) => 4,
-        Event::FlowOk(_, _) => 5,
-        Event::ChannelClosed(_, _) => 6,
-        Event::ConnectionClosed(_) => 7,
-        Event::Discarded(_) => 8,
-        Event::Blocked(_) => 9,
-        Event::Unblocked => 10,
-        Event::Quiet => 11,
-        Event::AnswerAsked => 12,
-        Event::LoginAsked => 13,
-        Event::OpenAsked => 14,
-    }
-}
-
-/// The number of what is said at a place, 0 for nothing.
-pub(crate) fn said_of(said: &Said) -> u8
-    ensures { result ≡ said_number said.now }
-{
-    match said {
-        Said::Nothing => 0,
-        Said::Message(_, _) => 3,
-        Said::Other(event) => event_of(event),
     }
 }
 

@@ -6,16 +6,16 @@ ghost use Rattle.amqp_core.specs.Config.Settings.{client_hello_view, server_hell
 ghost use Rattle.amqp_model.specs.End.Fitting.{config_fault};
 ghost use Rattle.amqp_calls.specs.declared.codec.owned.ArgFault.TheVariants as arg;
 ghost use Rattle.amqp_calls.specs.declared.ends.opening.OpenFault.TheVariants.{Given};
-ghost use Rattle.amqp_calls.specs.EndOpening.{client_said, client_set_up, open_status, server_said, server_set_up, BeginsAs, GathersAs, HoldsClient, HoldsServer, NotClient, NotClientHello, NotServer, NotServerHello, MakesOne, MakesPlace};
+ghost use Rattle.amqp_calls.specs.EndOpening.{client_said, client_set_up, open_status, server_said, server_set_up, BeginsAs, GathersAs, HoldsClient, HoldsServer, NotClient, NotClientHello, NotServer, NotServerHello};
 ghost use Rattle.amqp_calls.specs.Writing.{NotCounted};
 
 use crate::codec::owned::{ArgFault, own_table};
-use crate::codec::statuses::{MISFIT, NO_ROOM, value_fault};
+use crate::codec::statuses::{MISFIT, value_fault};
 use crate::ends::numbers::config_fault;
 use amqp_core::{
     Client, ClientHello, Config, ConfigFault, End, Role, Server, ServerHello, StreamEnd,
 };
-use amqp_handle::{Gathering, HandleFault, HeldEnd, Kept, Parts, Place, Said};
+use amqp_handle::{Gathering, HandleFault, HeldEnd, Kept};
 use amqp_value::ShortStr;
 use std::alloc::Global;
 
@@ -234,34 +234,4 @@ pub fn hold_server(alloc: Global, given: &ServerSettings<'_>) -> Result<HeldEnd,
     let end = make_server(alloc, given)?;
     let kept = keep(alloc, end.into_stream(), given.lends)?;
     Ok(HeldEnd::Server(kept))
-}
-
-/// Makes the next place, if it is this one. Those that are there stay as they are.
-fn make_place(alloc: Global, gathering: &mut Gathering, place: usize) -> u32
-    ensures { MakesPlace gathering.old place result gathering.new }
-{
-    if place < gathering.places.len() {
-        return 0;
-    }
-    if gathering.places.len() < place {
-        return NO_ROOM;
-    }
-    let made = Place {
-        said: Said::Nothing,
-        parts: Parts::new(alloc),
-    };
-    let Ok(()) = gathering.places.push(made) else {
-        return HandleFault::OutOfMemory.number();
-    };
-    0
-}
-
-/// Makes it, if the end gathers.
-pub fn make_one<R: Role>(alloc: Global, kept: &mut Kept<StreamEnd<R>>, place: usize) -> u32
-    ensures { MakesOne kept.old place result kept.new }
-{
-    match &mut kept.gathering {
-        Some(gathering) => make_place(alloc, gathering, place),
-        None => HandleFault::OtherKind.number(),
-    }
 }

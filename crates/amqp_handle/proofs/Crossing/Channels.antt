@@ -1,21 +1,17 @@
--- An event may go to another thread, and so may the channels in use.
+-- The channels in use may go to another thread.
 use denote.Param.Send.{IsSend, sendable}
 use Rattle.std.proofs.Crossing.{crosses}
 use Rattle.indexmap.proofs.map.IndexMap.TheSendSync as map_sent
-use Rattle.amqp_value.proofs.short_str.ShortStr.TheSendSync as text_sent
 use Rattle.amqp_channel.specs.contracts.channel.Channel as channel
 use Rattle.amqp_channel.specs.contracts.channels.Channels as channels
 use Rattle.amqp_channel.specs.contracts.deferred.Deferred as deferred
-use Rattle.amqp_channel.specs.contracts.events.Event as event
 use Rattle.amqp_channel.specs.contracts.gathering.Gathering as gathering
 use Rattle.amqp_channel.specs.contracts.life.Life as life
 use Rattle.amqp_channel.proofs.amounts.Amounts.TheSendSync as amounts_sent
-use Rattle.amqp_channel.proofs.events.Agreed.TheSendSync as agreed_sent
-use Rattle.amqp_channel.proofs.events.Reason.TheSendSync as reason_sent
 use Rattle.amqp_channel.proofs.free_numbers.FreeNumbers.TheSendSync as numbers_sent
 use Rattle.amqp_channel.proofs.standing.Standing.TheSendSync as standing_sent
 use Rattle.amqp_method.proofs.kinds.Kind.TheSendSync as kind_sent
-use Rattle.amqp_handle.proofs.Crossing.Messages.{content_sent, message_field_sent}
+use Rattle.amqp_handle.proofs.Crossing.Messages.{content_sent}
 
 pub deferred_field_sent : IsSend deferred.the_field.row
 deferred_field_sent = search (content_sent, sendable, crosses) depth 20
@@ -37,9 +33,3 @@ channel_sent = search (channel_field_sent, sendable) depth 5
 
 pub channels_field_sent : IsSend channels.the_field.row
 channels_field_sent = search (channel_sent, map_sent.the_send, numbers_sent.the_field_send, amounts_sent.the_field_send, sendable, crosses) depth 20 fits 5000
-
-pub event_field_sent : IsSend event.the_field.row
-event_field_sent = search (message_field_sent, agreed_sent.the_field_send, reason_sent.the_send, text_sent.the_send, sendable) depth 40 fits 20000
-
-pub event_sent : IsSend event.the_row
-event_sent = search (event_field_sent, sendable) depth 5

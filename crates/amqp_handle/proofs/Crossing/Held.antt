@@ -5,11 +5,8 @@ use Rattle.std.proofs.Crossing.{crosses}
 use Rattle.indexmap.proofs.map.IndexMap.TheSendSync as map_sent
 use Rattle.amqp_handle.specs.contracts.gathering.Gathering as gathering
 use Rattle.amqp_handle.specs.contracts.gathering.Parts as parts
-use Rattle.amqp_handle.specs.contracts.gathering.Place as place
-use Rattle.amqp_handle.specs.contracts.gathering.Said as said
 use Rattle.amqp_handle.specs.contracts.kept.HeldEnd as held
 use Rattle.amqp_handle.specs.contracts.kept.Kept as kept
-use Rattle.amqp_handle.proofs.Crossing.Channels.{event_field_sent}
 use Rattle.amqp_handle.proofs.Crossing.Ends.{endpoint_field_sent, heard_field_sent}
 
 pub parts_field_sent : IsSend parts.the_field.row
@@ -18,17 +15,8 @@ parts_field_sent = search (sendable, crosses) depth 20 fits 5000
 pub parts_sent : IsSend parts.the_row
 parts_sent = search (parts_field_sent, sendable) depth 5
 
-pub said_field_sent : IsSend said.the_field.row
-said_field_sent = search (event_field_sent, sendable, crosses) depth 40 fits 20000
-
-pub place_field_sent : IsSend place.the_field.row
-place_field_sent = search (said_field_sent, parts_field_sent, sendable, crosses) depth 20 fits 5000
-
-pub place_sent : IsSend place.the_row
-place_sent = search (place_field_sent, sendable) depth 5
-
 pub gathering_field_sent : IsSend gathering.the_field.row
-gathering_field_sent = search (place_sent, parts_sent, parts_field_sent, map_sent.the_send, sendable, crosses) depth 20 fits 10000
+gathering_field_sent = search (parts_sent, parts_field_sent, map_sent.the_send, sendable, crosses) depth 20 fits 10000
 
 pub gathering_sent : IsSend gathering.the_row
 gathering_sent = search (gathering_field_sent, sendable) depth 5

@@ -1,10 +1,8 @@
 //! Handles of ends: opened as a client or a server, with places for events, and closed.
-ghost use Rattle.amqp_calls.specs.EndOpening.{MakesPlaceAt, OpensClient, OpensServer};
+ghost use Rattle.amqp_calls.specs.EndOpening.{OpensClient, OpensServer};
 ghost use Rattle.amqp_calls.specs.Handles.{Closes};
 
-use amqp_calls::ends::opening::{
-    ClientSettings, ServerSettings, hold_client, hold_server, make_one,
-};
+use amqp_calls::ends::opening::{ClientSettings, ServerSettings, hold_client, hold_server};
 use amqp_calls::handles::status;
 use amqp_core::{Client, Server};
 use amqp_handle::{EndSlot, HandleFault, HeldEnd};
@@ -52,18 +50,4 @@ pub extern "C" fn proved_end_close(slot: &mut EndSlot, alloc: Global) -> u32
     ensures { Closes slot.old.value result slot.new.value }
 {
     status(slot.close(alloc))
-}
-
-/// Gives the end of a handle that gathers a place for an event, the next after those that it has, or one that it has.
-#[unsafe(no_mangle)]
-pub extern "C" fn proved_end_make_place(slot: &mut EndSlot, alloc: Global, place: usize) -> u32
-    ensures { MakesPlaceAt slot.old.value place result slot.new.value }
-{
-    if !slot.is_open() {
-        return HandleFault::NotOpen.number();
-    }
-    match slot.held() {
-        HeldEnd::Client(kept) => make_one(alloc, kept, place),
-        HeldEnd::Server(kept) => make_one(alloc, kept, place),
-    }
 }

@@ -1,45 +1,58 @@
-use Rattle.std.proofs.Common.{rules, ◌≡◌, ◌-◌, ◌++◌, ℕ, List, length, refl, ap, sym, ◌∙◌, arith}
-use Rattle.amqp_handle.specs.Gathered.{counts, head_length, more, Added, Counts, Finishes}
-use Rattle.amqp_handle.specs.declared.gathering.Gathering.{Gathering}
+use Rattle.std.proofs.Common.{rules, tests, ◌≡◌, ◌++◌, [], Some, sym, ap, subst, ◌∙◌}
+use Rattle.std.specs.Prelude.{slice_get}
+use Rattle.std.proofs.lemmas.List.{nil_from_length}
+use Rattle.std.proofs.lemmas.Option.{get_or_from_slice_get, slice_get_within}
 use Rattle.amqp_handle.specs.declared.gathering.Parts.{Parts}
-use Rattle.amqp_handle.proofs.Coming.{elsewhere}
+use Rattle.amqp_handle.proofs.Places.{get_before, get_set}
+use Rattle.amqp_handle.proofs.Telling.{joined_all, joined_none}
 use Rattle.amqp_handle.proofs.gathering.Gathering.add_last.Goals as goal
 
-pub returns : goal.returns
-returns c =
-    let at = c.turn_to.new.self in
-    let is = c.in_ok-turn_to.ensures in
-    let swapped = c.swap.ensures.x_after in
+pub returns-then-is_empty-clause-last : goal.returns-then-is_empty-clause-last
+returns-then-is_empty-clause-last c =
+    let between = c.turn_to.new.self in
+    let put = c.in_ok-put_away.ensures.away in
+    let there = c.index_mut.result.now in
     let part = c.args.part.now in
-    let parts : Parts = record { method = c.swap.new.x.method; header = c.swap.new.x.header; body = c.append.new.octets } in
-    let between : Gathering = record at { at_hand = parts; bodies = c.saturating_add-self.result } in
-    let counted : counts between ≡ record (counts c.args.self.now) { bodies = more c.args.self.now.bodies (length part) } =
-    ap (λ (bodies : ℕ). record (counts at) { bodies = bodies }) c.saturating_add-self.ensures
-    ∙ ap (λ (k : Counts). record k { bodies = more k.bodies (length part) }) is.same_counts in
-    let added : Added c.args.self.now c.args.channel part between =
+    let place = c.args.place in
+    let same : there ≡ between.at_hand = c.index_mut.ensures.value ∙ get_or_from_slice_get _ place _ there put.there in
+    let none : there.body.items ≡ [] = nil_from_length _ (search (rules, tests, c.is_empty.ensures, c.if-is_empty.true)) in
     record {
-      here = is.here;
-      method = ap (λ (p : Parts). p.method.items) swapped ∙ is.method;
-      header = ap (λ (p : Parts). p.header.items) swapped ∙ is.header;
-      body_is =
-          c.in_ok-append.ensures ∙ ap (λ (p : Parts). p.body.items ++ part) swapped ∙ ap (λ (body : List ℕ). body ++ part) is.body;
-      others = λ other differs. elsewhere at.current c.args.channel other at.at_hand parts _ is.here differs ∙ is.others other differs;
-      places = is.places;
-      counted = counted;
-      mark = is.mark;
-    } in
-    let heads : c.saturating_sub-self.result ≡ at.heads - head_length parts =
-    c.saturating_sub-self.ensures ∙ ap (λ (n : ℕ). at.heads - n) (c.head_length.ensures ∙ ap head_length (sym swapped)) in
-    let bodies : c.saturating_sub-self-2.result ≡ between.bodies - length parts.body.items =
-    omega (arith, c.saturating_sub-self-2.ensures, c.len-length.ensures) in
-    let less : (h b : ℕ) → Counts = λ h b. record { heads = h; bodies = b } in
-    let finishes : Finishes between c.args.place c.args.channel _ =
+      between = between;
+      here = c.in_ok-turn_to.ensures.here;
+      there = there;
+      found = get_set _ place there (slice_get_within _ place _ put.there);
+      method = ap (λ (p : Parts). p.method) same;
+      header_is = ap (λ (p : Parts). p.header) same;
+      body = joined_all there.body.items part none ∙ ap (λ body. body ++ part) (sym none ∙ ap (λ (p : Parts). p.body.items) same);
+      away = record { none = put.away.none; aside = put.away.aside; counted = put.away.counted; mark = put.away.mark };
+    }
+
+pub returns-in_err-append-clause-stays : goal.returns-in_err-append-clause-stays
+returns-in_err-append-clause-stays c =
+    λ at there less is. get_before _ c.args.place _ at there less
+    (c.in_ok-put_away.ensures.stays at there less (subst (λ places. slice_get places.items at ≡ Some there) (sym c.in_ok-turn_to.ensures.places) is))
+
+pub returns-clause-last : goal.returns-clause-last
+returns-clause-last c =
+    let between = c.turn_to.new.self in
+    let put = c.in_ok-put_away.ensures.away in
+    let before = c.index_mut.result.now in
+    let there : Parts = record before { body = c.append.new.octets } in
+    let part = c.args.part.now in
+    let place = c.args.place in
+    let same : before ≡ between.at_hand = c.index_mut.ensures.value ∙ get_or_from_slice_get _ place _ before put.there in
     record {
-      within = search (rules, is.places, c.requires);
-      says = refl;
-      none = refl;
-      aside = refl;
-      counted = ap (λ (h : ℕ). less h c.saturating_sub-self-2.result) heads ∙ ap (λ (b : ℕ). less (at.heads - head_length parts) b) bodies;
-      mark = refl;
-    } in
-    record { between = between; added = added; finishes = finishes }
+      between = between;
+      here = c.in_ok-turn_to.ensures.here;
+      there = there;
+      found = get_set _ place there (slice_get_within _ place _ put.there);
+      method = ap (λ (p : Parts). p.method) same;
+      header_is = ap (λ (p : Parts). p.header) same;
+      body = joined_none there.body.items ∙ c.in_ok-append.ensures ∙ ap (λ (p : Parts). p.body.items ++ part) same;
+      away = record { none = put.away.none; aside = put.away.aside; counted = put.away.counted; mark = put.away.mark };
+    }
+
+pub returns-clause-stays : goal.returns-clause-stays
+returns-clause-stays c =
+    λ at there less is. get_before _ c.args.place _ at there less
+    (c.in_ok-put_away.ensures.stays at there less (subst (λ places. slice_get places.items at ≡ Some there) (sym c.in_ok-turn_to.ensures.places) is))
