@@ -13,13 +13,24 @@ use std::cell::Cell;
 use std::collections::BTreeMap;
 use std::rc::Rc;
 
-#[derive(Drop)]
 pub struct Consumer {
     pub tag: ShortStr,
     /// The number of its queue.
     pub queue: u64,
     pub no_ack: bool,
     pub credit: Credit,
+}
+
+/// Written out, so that it is proved once.
+impl Drop for Consumer {
+    fn drop(self) {
+        let Consumer {
+            tag: _,
+            queue: _,
+            no_ack: _,
+            credit: _,
+        } = self;
+    }
 }
 
 /// A message that was sent: of which queue, and its place there.
@@ -120,11 +131,12 @@ impl Channel {
     }
 
     pub fn consumer_with(&self, tag: &[u8]) -> Option<u64> {
-        let found = self
-            .consumers
-            .iter()
-            .find(|pair| pair.1.tag.as_bytes() == tag)?;
-        Some(*found.0)
+        for (id, consumer) in &self.consumers {
+            if consumer.tag.as_bytes() == tag {
+                return Some(*id);
+            }
+        }
+        None
     }
 
     /// The consumer, if it may be sent a message now.

@@ -3,7 +3,7 @@ use crate::headers::headers_match;
 use crate::messages::Content;
 use crate::topic::topic_matches;
 use amqp_typed::exchange::DeclareView;
-use amqp_value::{ShortStr, Table, Value};
+use amqp_value::{ShortStr, Table};
 use std::alloc::{AllocError, Global};
 
 /// Which bindings of an exchange a message takes.
@@ -17,31 +17,50 @@ pub enum ExchangeType {
 
 impl ExchangeType {
     pub fn named(name: &[u8]) -> Option<ExchangeType> {
-        match name {
-            b"direct" => Some(ExchangeType::Direct),
-            b"fanout" => Some(ExchangeType::Fanout),
-            b"topic" => Some(ExchangeType::Topic),
-            b"headers" => Some(ExchangeType::Headers),
-            _ => None,
+        if name == b"direct".as_slice() {
+            Some(ExchangeType::Direct)
+        } else if name == b"fanout".as_slice() {
+            Some(ExchangeType::Fanout)
+        } else if name == b"topic".as_slice() {
+            Some(ExchangeType::Topic)
+        } else if name == b"headers".as_slice() {
+            Some(ExchangeType::Headers)
+        } else {
+            None
         }
     }
 }
 
 /// Sends messages to a queue, which has this number.
-#[derive(Drop)]
 pub struct Binding {
     pub queue: u64,
     pub key: ShortStr,
     pub args: Table,
 }
 
+/// Written out, so that it is proved once.
+impl Drop for Binding {
+    fn drop(self) {
+        let Binding {
+            queue: _,
+            key: _,
+            args: _,
+        } = self;
+    }
+}
+
 impl Binding {
     /// Whether it is the same, in whatever order its arguments stand.
     fn is_same(&self, other: &Binding) -> bool {
-        let (own, others) = (self.args.pairs(), &other.args);
-        let is_there = |pair: &(ShortStr, Value)| others.get(pair.0.as_bytes()) == Some(&pair.1);
-        let are_alike = own.len() == others.len() && own.iter().all(is_there);
-        self.queue == other.queue && self.key == other.key && are_alike
+        if self.queue != other.queue || self.key != other.key {
+            return false;
+        }
+        for (name, value) in self.args.pairs() {
+            if other.args.get(name.as_bytes()) != Some(value) {
+                return false;
+            }
+        }
+        self.args.len() == other.args.len()
     }
 }
 
@@ -96,9 +115,12 @@ impl Exchange {
 
     /// Adds a binding, if it isn't there.
     pub fn bind(&mut self, binding: Binding) -> Result<(), AllocError> {
-        if !self.bindings.iter().any(|own| own.is_same(&binding)) {
-            self.bindings.push(binding)?;
+        for own in &self.bindings {
+            if own.is_same(&binding) {
+                return Ok(());
+            }
         }
+        self.bindings.push(binding)?;
         Ok(())
     }
 

@@ -1,7 +1,7 @@
 //! Headers that a binding asks for.
 ghost use Rattle.std.specs.Prelude.{◌≡◌, ◌↔◌, true, false, Contains};
 
-use amqp_value::{Table, Value};
+use amqp_value::{ShortStr, Table, Value};
 use std::alloc::{AllocError, Global};
 
 /// Whether a binding's arguments are among the headers: all, or one with `x-match` `any`. Names in `x-` don't count.
@@ -13,16 +13,28 @@ pub fn headers_match(
     let mut tests = Vec::new(alloc);
     for (name, wanted) in args.pairs() {
         if !name.as_bytes().starts_with(b"x-") {
-            let value = headers.and_then(|headers| headers.get(name.as_bytes()));
-            tests.push(value.is_some_and(|value| is_met(wanted, value)))?;
+            tests.push(is_met(wanted, value_of(headers, name)))?;
         }
     }
-    let x_match = args.get(b"x-match").and_then(Value::as_bytes);
-    Ok(tests_suffice(x_match == Some(b"any".as_slice()), &tests))
+    let is_any = match args.get(b"x-match") {
+        Some(x_match) => x_match.as_bytes() == Some(b"any".as_slice()),
+        None => false,
+    };
+    Ok(tests_suffice(is_any, &tests))
+}
+
+fn value_of<'a>(headers: Option<&'a Table>, name: &ShortStr) -> Option<&'a Value> {
+    match headers {
+        Some(headers) => headers.get(name.as_bytes()),
+        None => None,
+    }
 }
 
 /// Whether a header is as wanted: void asks for any, a whole number is of any width, and octets are under either tag.
-fn is_met(wanted: &Value, value: &Value) -> bool {
+fn is_met(wanted: &Value, value: Option<&Value>) -> bool {
+    let Some(value) = value else {
+        return false;
+    };
     match (wanted.as_i64(), wanted.as_bytes()) {
         (Some(number), _) => value.as_i64() == Some(number),
         (None, Some(octets)) => value.as_bytes() == Some(octets),

@@ -40,18 +40,13 @@ impl Content {
     ) -> Result<Content, OutOfMemory>
         ensures { IfOk result (λ content. content.body.items ≡ []) }
     {
-        let exchange = short_str(alloc, publish.exchange)?;
-        let routing_key = short_str(alloc, publish.routing_key)?;
+        let publish = owned(alloc, publish)?;
+        let share = Share::new(OVERHEAD, octets.clone()?);
         Ok(Content {
-            publish: Publish {
-                exchange,
-                routing_key,
-                mandatory: publish.mandatory,
-                immediate: publish.immediate,
-            },
+            publish,
             header: Header::default(),
             body: Vec::new(alloc),
-            share: Share::new(OVERHEAD, octets.clone()?),
+            share,
         })
     }
 
@@ -87,6 +82,17 @@ fn short_str(alloc: Global, octets: &[u8]) -> Result<ShortStr, OutOfMemory> {
         Ok(text) => Ok(text),
         Err(_) => Err(OutOfMemory),
     }
+}
+
+/// What a method says, kept.
+fn owned(alloc: Global, publish: PublishView<'_>) -> Result<Publish, OutOfMemory> {
+    let exchange = short_str(alloc, publish.exchange)?;
+    Ok(Publish {
+        exchange,
+        routing_key: short_str(alloc, publish.routing_key)?,
+        mandatory: publish.mandatory,
+        immediate: publish.immediate,
+    })
 }
 
 /// The names of the exchange and of the key, for another method.

@@ -1,6 +1,6 @@
 //! Who may log in.
 use amqp_typed::connection::StartOkRef;
-use amqp_value::read_table;
+use amqp_value::{Table, read_table};
 use std::alloc::Global;
 
 /// Users with their passwords, of a text that has a line `name:password` for each.
@@ -12,37 +12,76 @@ pub struct Users {
 impl Users {
     /// None: a line is not `name:password`.
     pub fn read(text: String) -> Option<Users> {
-        let is_read = text.as_str().lines().all(|line| line.contains(':'));
-        is_read.then_some(Users { text })
+        for line in text.as_str().lines() {
+            if !line.contains(':') {
+                return None;
+            }
+        }
+        Some(Users { text })
     }
 
     /// Whether a client may log in as it says, by PLAIN or AMQPLAIN. None: it says nothing that can be read.
     pub fn allow(&self, alloc: Global, start: &StartOkRef<'_>) -> Option<bool> {
         if start.mechanism.as_bytes() == b"PLAIN".as_slice() {
             // whom to act as, which isn't looked at, the name and the password, with zeros between
-            let mut parts = start.response.splitn(3, |octet| *octet == 0);
-            parts.next()?;
-            return Some(self.has(parts.next()?, parts.next()?));
+            let (_, login) = parted(start.response, 0)?;
+            let (name, password) = parted(login, 0)?;
+            return Some(self.has(name, password));
         }
-        // AMQPLAIN: a table without its length
-        let length = u32::try_from(start.response.len()).ok()?;
-        let mut octets = Vec::from_slice(alloc, &length.to_be_bytes()).ok()?;
-        octets.extend_from_slice(start.response).ok()?;
-        let (table, _) = read_table(alloc, &octets).ok()?;
-        let (name, password) = (table.get(b"LOGIN")?, table.get(b"PASSWORD")?);
-        Some(self.has(name.as_bytes()?, password.as_bytes()?))
+        let Some(table) = table_of(alloc, start.response) else {
+            return None;
+        };
+        match (octets_at(&table, b"LOGIN"), octets_at(&table, b"PASSWORD")) {
+            (Some(name), Some(password)) => Some(self.has(name, password)),
+            _ => None,
+        }
     }
 
     fn has(&self, name: &[u8], password: &[u8]) -> bool {
-        let mut users = self.text.as_str().lines();
-        users.any(|user| is_user(user, name, password))
+        for user in self.text.as_str().lines() {
+            if is_user(user.as_bytes(), name, password) {
+                return true;
+            }
+        }
+        false
     }
 }
 
 /// Whether a line is of this user with this password.
-fn is_user(line: &str, name: &[u8], password: &[u8]) -> bool {
-    match line.split_once(':') {
-        Some((user, word)) => user.as_bytes() == name && word.as_bytes() == password,
+fn is_user(line: &[u8], name: &[u8], password: &[u8]) -> bool {
+    match parted(line, b':') {
+        Some((user, word)) => user == name && word == password,
         None => false,
+    }
+}
+
+/// What stands before the first octet of this value, and what stands after it.
+fn parted(text: &[u8], octet: u8) -> Option<(&[u8], &[u8])> {
+    for place in 0..text.len() {
+        if text[place] == octet {
+            return Some((&text[..place], &text[place + 1..]));
+        }
+    }
+    None
+}
+
+/// The table of an AMQPLAIN login, which stands there without its length.
+fn table_of(alloc: Global, response: &[u8]) -> Option<Table> {
+    let Ok(length) = u32::try_from(response.len()) else {
+        return None;
+    };
+    let mut octets = Vec::new(alloc);
+    octets.extend_from_slice(&length.to_be_bytes()).ok()?;
+    octets.extend_from_slice(response).ok()?;
+    match read_table(alloc, &octets) {
+        Ok((table, _)) => Some(table),
+        Err(_) => None,
+    }
+}
+
+fn octets_at<'a>(table: &'a Table, name: &[u8]) -> Option<&'a [u8]> {
+    match table.get(name) {
+        Some(value) => value.as_bytes(),
+        None => None,
     }
 }
