@@ -4,7 +4,7 @@ use crate::exchanges::standard_exchanges;
 use crate::fault::{Done, Fault, Result, close_text};
 use crate::queues::{Place, QueueId, Queues};
 use amqp_core::Server;
-use amqp_method::{Kind, Message, MethodRef, reply};
+use amqp_method::{Kind, MethodRef, reply};
 use amqp_typed::basic::AnyMethodView as Basic;
 use amqp_typed::exchange::AnyMethodView as Exchanging;
 use amqp_typed::queue::AnyMethodView as Queueing;
@@ -40,6 +40,7 @@ pub struct Broker {
 
 impl Broker {
     pub fn new(alloc: Global, users: Users) -> Result<Broker> {
+        let exchanges = standard_exchanges(alloc)?;
         let users = Rc::new(alloc, users)?;
         let held = Rc::new(alloc, Cell::new(0))?;
         Ok(Broker {
@@ -48,7 +49,7 @@ impl Broker {
             held,
             is_short: false,
             connections: BTreeMap::new(alloc),
-            exchanges: standard_exchanges(alloc)?,
+            exchanges,
             queues: BTreeMap::new(alloc),
             names: BTreeMap::new(alloc),
             last_id: 0,
@@ -110,19 +111,21 @@ impl Broker {
 
     fn handle(&mut self, at: Place, asked: Asked, payload: &[u8]) -> Done {
         match asked {
-            Asked::Nothing => {}
-            Asked::Login => self.connection(at.0)?.login()?,
-            Asked::Enter => self.connection(at.0)?.enter()?,
-            Asked::Open => self.connection(at.0)?.open(at.1)?,
-            Asked::Flow(active) => self.channel(at)?.is_flowing = active,
-            Asked::Method => self.tell(at, MethodRef::new(payload)?)?,
+            Asked::Nothing => Ok(()),
+            Asked::Login => self.connection(at.0)?.login(),
+            Asked::Enter => self.connection(at.0)?.enter(),
+            Asked::Open => self.connection(at.0)?.open(at.1),
+            Asked::Flow(active) => {
+                self.channel(at)?.is_flowing = active;
+                Ok(())
+            }
+            Asked::Method => self.tell(at, MethodRef::new(payload)?),
             Asked::Content => {
                 let done = self.publish(at);
-                self.close_if_refused(at, Kind::BasicPublish, done)?;
+                self.close_if_refused(at, Kind::BasicPublish, done)
             }
-            Asked::Close => self.close_channel(at)?,
+            Asked::Close => self.close_channel(at),
         }
-        Ok(())
     }
 
     /// Does what a method asks for, or closes for it.
@@ -175,19 +178,16 @@ impl Broker {
 
     /// Sends a method. One that answers a request isn't sent where the client wants no answer.
     pub fn send<T: Typed>(&mut self, at: Place, method: T) -> Done {
-        let message = Message::try_plain(method.into_method(self.alloc)?);
-        match message {
-            Ok(message) => Ok(self.end(at)?.send(at.1, &message)?),
-            Err(_) => Err(Fault::GivenUp),
-        }
+        let method = method.into_method(self.alloc)?;
+        Ok(self.end(at)?.send(at.1, method)?)
     }
 
     /// Closes the channel for a method that is refused, or the connection where the error is a hard one.
     fn close_if_refused(&mut self, at: Place, kind: Kind, done: Done) -> Done {
-        match done {
-            Err(Fault::Refused(code, text)) => self.close_for(at, code, &text, kind),
-            done => done,
+        if let Err(Fault::Refused(code, text)) = &done {
+            return self.close_for(at, *code, text, kind);
         }
+        done
     }
 
     fn close_for(&mut self, at: Place, code: u16, text: &ShortStr, kind: Kind) -> Done {
@@ -221,11 +221,12 @@ impl Broker {
     }
 
     fn close_channels(&mut self, id: usize) -> Done {
-        let alloc = self.alloc;
-        let numbers = self.connection(id)?.channels.keys().copied();
-        let numbers: Vec<u16> = numbers.collect(alloc)?;
-        for channel in numbers {
-            self.close_channel(Place(id, channel))?;
+        for _ in 0..u64::MAX {
+            let Some((number, _)) = self.connection(id)?.channels.first_key_value() else {
+                break;
+            };
+            let number = *number;
+            self.close_channel(Place(id, number))?;
         }
         Ok(())
     }
@@ -265,25 +266,33 @@ impl Broker {
     /// A connection is gone: its channels and its exclusive queues are.
     fn remove_connection(&mut self, id: usize) -> Done {
         self.close_channels(id)?;
-        let owned = self.queues.values().filter(|queue| queue.owner == Some(id));
-        let owned: Vec<QueueId> = owned.map(|queue| queue.id).collect(self.alloc)?;
+        let mut owned = Vec::new(self.alloc);
+        for queue in self.queues.values() {
+            if queue.owner == Some(id) {
+                owned.push(queue.id)?;
+            }
+        }
         for queue in owned {
             self.remove_queue(queue);
         }
-        self.connections.remove(&id);
+        drop(self.connections.remove(&id));
         Ok(())
     }
 }
 
 impl Program for Broker {
     fn has_work(&self) -> bool {
-        let mut links = self.connections.values().map(|connection| &connection.link);
-        links.any(|link| link.has_work() || link.is_done())
+        for connection in self.connections.values() {
+            if connection.link.has_work() || connection.link.is_done() {
+                return true;
+            }
+        }
+        false
     }
 
     fn add(&mut self, _: &impl Connect, number: usize, stream: TcpStream) -> anyhow::Result<()> {
         let connection = Connection::new(self.alloc, self.users.clone()?, stream)?;
-        self.connections.insert(number, connection)?;
+        drop(self.connections.insert(number, connection)?);
         Ok(())
     }
 

@@ -8,7 +8,7 @@ use amqp_core::{EventRef, Server};
 use amqp_method::{Kind, MethodRef, OutOfMemory, reply};
 use amqp_typed::TypedRef;
 use amqp_typed::connection::{OpenRef, StartOkRef};
-use amqp_value::{ShortStr, Value};
+use amqp_value::ShortStr;
 use example_loop::{BROKER_ABILITIES, FULL, Link, Streaming, server_end};
 use example_store::{Channel, Delivery, Users};
 use mio::net::TcpStream;
@@ -105,20 +105,24 @@ impl Connection {
     }
 
     pub fn login(&mut self) -> Done {
-        let start = self.link.end.heard(Kind::ConnectionStartOk);
-        let start = start.and_then(StartOkRef::from_ref);
-        let is_user = start.and_then(|start| self.users.allow(self.alloc, &start));
-        let abilities = start.and_then(StartOkRef::capabilities);
-        let hears = abilities.and_then(|able| able.get(b"connection.blocked"));
-        self.hears_blocked = hears.and_then(Value::as_bool) == Some(true);
+        let mut is_user = None;
+        if let Some(start) = self.link.end.heard(Kind::ConnectionStartOk)
+            && let Some(start) = StartOkRef::from_ref(start)
+        {
+            is_user = self.users.allow(self.alloc, &start);
+            self.hears_blocked = hears_blocked(start) == Some(true);
+        }
         self.admit(is_user, reply::ACCESS_REFUSED, "no such login")
     }
 
     /// Lets a client into the virtual host.
     pub fn enter(&mut self) -> Done {
-        let open = self.link.end.heard(Kind::ConnectionOpen);
-        let open = open.and_then(OpenRef::from_ref);
-        let is_host = open.map(|open| open.virtual_host.as_bytes() == b"/".as_slice());
+        let mut is_host = None;
+        if let Some(open) = self.link.end.heard(Kind::ConnectionOpen)
+            && let Some(open) = OpenRef::from_ref(open)
+        {
+            is_host = Some(open.virtual_host.as_bytes() == b"/".as_slice());
+        }
         self.admit(is_host, reply::NOT_ALLOWED, "no such host")
     }
 
@@ -221,6 +225,11 @@ impl Connection {
     }
 }
 
+/// Whether a client is told that it isn't read, as it says when it logs in.
+fn hears_blocked(start: StartOkRef<'_>) -> Option<bool> {
+    start.capabilities()?.get(b"connection.blocked")?.as_bool()
+}
+
 fn keep(payload: &mut Vec<u8>, method: MethodRef<'_>) -> Heard {
     payload.clear();
     payload.extend_from_slice(method.payload())?;
@@ -229,24 +238,14 @@ fn keep(payload: &mut Vec<u8>, method: MethodRef<'_>) -> Heard {
 
 /// A frame of a content comes to its channel. Until the content is whole its octets are counted among these.
 fn gather(channel: &mut Channel, event: EventRef<'_>, octets: &Rc<Cell<usize>>) -> Heard {
-    let is_whole = match event {
-        EventRef::Begins(_, method) => {
-            channel.begin(method, octets)?;
-            false
-        }
-        EventRef::Heads(_, header, is_whole) => {
-            channel.head(header)?;
-            is_whole
-        }
-        EventRef::Part(_, part, is_whole) => {
-            channel.add(part)?;
-            is_whole
-        }
-        _ => false,
-    };
-    Ok(if is_whole {
-        Asked::Content
-    } else {
-        Asked::Nothing
+    match event {
+        EventRef::Begins(_, method) => channel.begin(method, octets)?,
+        EventRef::Heads(_, header, _) => channel.head(header)?,
+        EventRef::Part(_, part, _) => channel.add(part)?,
+        _ => {}
+    }
+    Ok(match event {
+        EventRef::Heads(_, _, true) | EventRef::Part(_, _, true) => Asked::Content,
+        _ => Asked::Nothing,
     })
 }

@@ -20,11 +20,9 @@ const STANDARD: [(&[u8], ExchangeType); 5] = [
 
 pub fn standard_exchanges(alloc: Global) -> Result<BTreeMap<Vec<u8>, Exchange>> {
     let mut exchanges = BTreeMap::new(alloc);
-    for (name, kind) in STANDARD {
-        exchanges.insert(
-            Vec::from_slice(alloc, name)?,
-            Exchange::standard(alloc, kind),
-        )?;
+    for (name, kind) in STANDARD.iter() {
+        let name = Vec::from_slice(alloc, name)?;
+        exchanges.insert(name, Exchange::standard(alloc, *kind))?;
     }
     Ok(exchanges)
 }
@@ -50,8 +48,11 @@ impl Broker {
     pub fn route(&self, message: &Content) -> Result<Vec<QueueId>> {
         let name = message.publish.exchange.as_bytes();
         if name.is_empty() {
-            let queue = self.names.get(message.publish.routing_key.as_bytes());
-            return Ok(queue.copied().into_iter().collect(self.alloc)?);
+            let mut queues = Vec::new(self.alloc);
+            if let Some(queue) = self.names.get(message.publish.routing_key.as_bytes()) {
+                queues.push(*queue)?;
+            }
+            return Ok(queues);
         }
         match self.exchanges.get(name) {
             Some(exchange) if exchange.is_internal() => {
@@ -68,11 +69,8 @@ impl Broker {
             Some(_) if declare.passive => {}
             Some(own) if own.is_as(declare) => {}
             Some(_) => {
-                return self.refuse(
-                    reply::PRECONDITION_FAILED,
-                    "declared otherwise: exchange",
-                    name,
-                );
+                let why = "declared otherwise: exchange";
+                return self.refuse(reply::PRECONDITION_FAILED, why, name);
             }
             None if declare.passive => return self.no_exchange(name),
             None => self.make_exchange(declare)?,
@@ -95,8 +93,10 @@ impl Broker {
     pub fn delete_exchange(&mut self, at: Place, delete: exchange::DeleteView<'_>) -> Done {
         let name = delete.exchange;
         self.check_not_reserved(name)?;
-        let exchange = self.exchanges.get(name);
-        if delete.if_unused && exchange.is_some_and(Exchange::is_bound) {
+        if delete.if_unused
+            && let Some(exchange) = self.exchanges.get(name)
+            && exchange.is_bound()
+        {
             return self.refuse(reply::PRECONDITION_FAILED, "in use", name);
         }
         self.exchanges.remove(name);

@@ -54,11 +54,8 @@ impl Broker {
 
     fn send_back(&mut self, at: Place, content: &Content) -> Done {
         if !self.channel(at)?.is_flowing {
-            return self.refuse(
-                reply::PRECONDITION_FAILED,
-                "a return is due while the channel is paused",
-                b"",
-            );
+            let why = "a return is due while the channel is paused";
+            return self.refuse(reply::PRECONDITION_FAILED, why, b"");
         }
         let method = content.returned()?;
         let (properties, body) = (&content.header.properties, &content.body);
@@ -94,7 +91,6 @@ impl Broker {
         } else {
             ShortStr::new(self.alloc, consume.consumer_tag)?
         };
-        let ok = basic::ConsumeOk::new(tag.copy()?);
         let channel = self.channel(at)?;
         let consumer = Consumer {
             tag,
@@ -102,7 +98,8 @@ impl Broker {
             no_ack: consume.no_ack,
             credit: Credit::new(channel.prefetch),
         };
-        channel.consumers.insert(id, consumer)?;
+        let ok = basic::ConsumeOk::new(consumer.tag.copy()?);
+        drop(channel.consumers.insert(id, consumer)?);
         self.seat(at, id, queue, consume.exclusive)?;
         self.send(at, ok)
     }

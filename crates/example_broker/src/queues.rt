@@ -141,7 +141,7 @@ impl Broker {
             messages: Messages::new(self.alloc),
             consumers: VecDeque::new(self.alloc),
         };
-        self.queues.insert(id, queue)?;
+        drop(self.queues.insert(id, queue)?);
         let name = Vec::from_slice(self.alloc, name)?;
         self.names.insert(name, id)?;
         Ok(())
@@ -182,16 +182,23 @@ impl Broker {
         }
     }
 
+    /// A queue is gone: its name and its consumers are.
+    fn forget_queue(&mut self, queue: &Queue) {
+        self.names.remove(queue.name.as_bytes());
+        for (at, id) in queue.consumers.iter() {
+            if let Ok(channel) = self.channel(*at) {
+                drop(channel.consumers.remove(id));
+            }
+        }
+    }
+
     /// Removes a queue with its consumers and its bindings, and the exchanges that go with these.
     pub fn remove_queue(&mut self, id: QueueId) {
-        if let Some(queue) = self.queues.remove(&id) {
-            self.names.remove(queue.name.as_bytes());
-            for (at, id) in queue.consumers.iter() {
-                if let Ok(channel) = self.channel(*at) {
-                    channel.consumers.remove(id);
-                }
-            }
+        let queue = self.queues.remove(&id);
+        if let Some(queue) = &queue {
+            self.forget_queue(queue);
             self.exchanges.retain(|_, own| !own.unbind_queue(id));
         }
+        drop(queue);
     }
 }

@@ -11,12 +11,17 @@ impl<R: Role> Streaming<R> {
         self.inner.waiting_in_all().saturating_add(ahead)
     }
 
-    /// Sends a method. One that answers a request isn't sent where no answer is wanted.
-    pub fn send(&mut self, channel: u16, message: &Message) -> Result<(), AskFault> {
-        if message.method().kind().is_reply() && self.inner.reply_due(channel).is_none() {
+    /// Sends a method that no content follows. One that answers a request isn't sent where no answer is wanted.
+    pub fn send(&mut self, channel: u16, method: Method) -> Result<(), AskFault> {
+        if method.kind().is_reply() && self.inner.reply_due(channel).is_none() {
             return Ok(());
         }
-        self.inner.send(channel, message)
+        let Ok(message) = Message::try_plain(method) else {
+            return Err(AskFault::NotSendable);
+        };
+        let sent = self.inner.send(channel, &message);
+        drop(message);
+        sent
     }
 
     /// Sends a content that is whole.

@@ -9,14 +9,25 @@ ghost use Rattle.example_loop.specs.Gathering.{begun, content_there, gathered, l
 use crate::streaming::Streaming;
 use amqp_core::{AskFault, Chunks, Role, StreamEnd};
 use amqp_method::{Carrier, Header, HeaderRef, Method, MethodRef};
-use std::alloc::Global;
+use std::alloc::{AllocError, Global};
 
 /// A content that is whole. Each part of its body is let go as it is sent, so that no body is in memory twice.
-#[derive(Drop)]
 pub struct Content {
     method: Carrier,
     header: Header,
     body: Chunks,
+}
+
+/// Written out, so that it is proved once. The header, which is large, is dropped by a call.
+impl Drop for Content {
+    fn drop(self) {
+        let Content {
+            method: _,
+            header,
+            body: _,
+        } = self;
+        drop(header);
+    }
 }
 
 impl Content {
@@ -34,6 +45,20 @@ impl Content {
     {
         let (method, properties) = (self.method.method(), &self.header.properties);
         end.send_chunks(channel, method, properties, &mut self.body)
+    }
+
+    /// Begins to send it, if it has a body and may begin now, and answers whether it did.
+    fn begin_on<R: Role>(&self, end: &mut Streaming<R>, channel: u16, source: u16) -> bool {
+        let (method, properties) = (self.method.method(), &self.header.properties);
+        let size = self.header.body_size;
+        size > 0 && end.begin(channel, source, method, properties, size).is_ok()
+    }
+
+    /// What has come of its body, in one piece.
+    fn joined(&mut self, alloc: Global) -> Result<Vec<u8>, AllocError> {
+        let mut body = Vec::new(alloc);
+        self.body.append_to(&mut body)?;
+        Ok(body)
     }
 }
 
@@ -120,21 +145,13 @@ impl Coming {
         channel: u16,
         source: u16,
     ) -> anyhow::Result<()> {
-        let Some(content) = &mut self.content else {
-            return Ok(());
-        };
-        let header = &content.header;
-        if header.body_size == 0 {
-            return Ok(());
+        if let Some(content) = &mut self.content
+            && content.begin_on(end, channel, source)
+        {
+            let body = content.joined(alloc)?;
+            end.pass(&body)?;
+            self.content = None;
         }
-        let (method, properties) = (content.method.method(), &header.properties);
-        let Ok(()) = end.begin(channel, source, method, properties, header.body_size) else {
-            return Ok(());
-        };
-        let mut body = Vec::new(alloc);
-        content.body.append_to(&mut body)?;
-        end.pass(&body)?;
-        self.content = None;
         Ok(())
     }
 
@@ -148,7 +165,7 @@ impl Coming {
         Ok(())
     }
 
-    fn push(&mut self, part: Vec<u8>) -> anyhow::Result<()>
+    fn push(&mut self, part: Vec<u8>) -> Result<(), AllocError>
         ensures { OnOk result (gathered self.new ≡ with_part part.items (gathered self.old)) }
     {
         if let Some(content) = &mut self.content {

@@ -27,8 +27,14 @@ pub const ABILITIES: [&str; 3] = [
 
 /// The word that stands after another on the command line, if that is there.
 pub fn word_after<'a>(words: &'a [String], name: &str) -> Option<&'a str> {
-    let place = words.iter().position(|word| word.as_str() == name)?;
-    Some(words.get(place + 1)?.as_str())
+    let mut is_next = false;
+    for word in words {
+        if is_next {
+            return Some(word.as_str());
+        }
+        is_next = word.as_str() == name;
+    }
+    None
 }
 
 /// What a program can do.
@@ -45,8 +51,8 @@ fn properties(alloc: Global, product: &str, abilities: &[&str]) -> Result<Table,
     let mut properties = Table::new(alloc);
     let name = ShortStr::text(alloc, "product")?;
     properties.push(name, Value::string(alloc, product)?)?;
-    let name = ShortStr::text(alloc, "capabilities")?;
-    properties.push(name, Value::from(capabilities(alloc, abilities)?))?;
+    let able = capabilities(alloc, abilities)?;
+    properties.push(ShortStr::text(alloc, "capabilities")?, Value::from(able))?;
     Ok(properties)
 }
 

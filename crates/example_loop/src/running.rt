@@ -36,22 +36,45 @@ pub fn serve<R: Net<Stream = TcpStream, Listener = TcpListener> + Clock + Print>
     address: &str,
     program: &mut impl Program,
 ) -> anyhow::Result<()> {
-    let mut sockets = Sockets::listen(rt, alloc, address)?;
-    println!(rt; "listening {}", sockets.listener.local_addr()?)?;
     let mut room = vec![in alloc; 0; AT_ONCE]?;
+    let mut sockets = Sockets::listen(rt, alloc, address)?;
+    announce(rt, &sockets.listener)?;
     for _ in 0..u64::MAX {
-        let ticks = sockets.wait(program.has_work())?;
-        for event in sockets.events.iter() {
-            program.note(event.token().0, event);
-        }
-        for _ in 0..u64::MAX {
-            let Some((number, stream)) = sockets.accept() else {
-                break;
-            };
-            // one that can't be served, since memory or a socket was refused, is dropped
-            drop(program.add(&sockets, number, stream));
-        }
-        program.turn(rt, ticks, &mut room)?;
+        turn(rt, &mut sockets, program, &mut room)?;
     }
     Ok(())
+}
+
+fn announce(rt: &impl Print, listener: &net::TcpListener) -> anyhow::Result<()> {
+    let address = listener.local_addr()?;
+    println!(rt; "listening {address}")?;
+    Ok(())
+}
+
+/// Waits once, and then serves whoever is ready or connects.
+fn turn<R: Net<Stream = TcpStream, Listener = TcpListener> + Clock + Print>(
+    rt: &R,
+    sockets: &mut Sockets<'_, R>,
+    program: &mut impl Program,
+    room: &mut [u8],
+) -> anyhow::Result<()> {
+    let ticks = sockets.wait(program.has_work())?;
+    for event in sockets.events.iter() {
+        program.note(event.token().0, event);
+    }
+    accept(sockets, program);
+    program.turn(rt, ticks, room)
+}
+
+fn accept<R: Net<Stream = TcpStream, Listener = TcpListener> + Clock>(
+    sockets: &mut Sockets<'_, R>,
+    program: &mut impl Program,
+) {
+    for _ in 0..u64::MAX {
+        let Some((number, stream)) = sockets.accept() else {
+            return;
+        };
+        // one that can't be served, since memory or a socket was refused, is dropped
+        drop(program.add(sockets, number, stream));
+    }
 }

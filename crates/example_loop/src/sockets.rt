@@ -16,7 +16,6 @@ pub trait Connect {
 }
 
 /// A listening socket, and the wait for it and for those that it has accepted.
-#[derive(Drop)]
 pub(crate) struct Sockets<'a, R: Net + Clock> {
     rt: &'a R,
     poll: Poll,
@@ -27,6 +26,20 @@ pub(crate) struct Sockets<'a, R: Net + Clock> {
     ticked: Instant,
 }
 
+/// Written out, so that it is proved once.
+impl<R: Net + Clock> Drop for Sockets<'_, R> {
+    fn drop(self) {
+        let Sockets {
+            rt: _,
+            poll: _,
+            events: _,
+            listener: _,
+            last: _,
+            ticked: _,
+        } = self;
+    }
+}
+
 impl<'a, R: Net<Stream = net::TcpStream, Listener = net::TcpListener> + Clock> Sockets<'a, R> {
     /// Listens at an address.
     pub(crate) fn listen(
@@ -34,6 +47,7 @@ impl<'a, R: Net<Stream = net::TcpStream, Listener = net::TcpListener> + Clock> S
         alloc: Global,
         address: &str,
     ) -> anyhow::Result<Sockets<'a, R>> {
+        let ticked = Instant::now(rt)?;
         let listener = net::TcpListener::bind(rt, address)?;
         listener.set_nonblocking(true)?;
         let mut listener = TcpListener::from_std(listener);
@@ -46,7 +60,7 @@ impl<'a, R: Net<Stream = net::TcpStream, Listener = net::TcpListener> + Clock> S
             events: Events::with_capacity(alloc, 1024)?,
             listener,
             last: 0,
-            ticked: Instant::now(rt)?,
+            ticked,
         })
     }
 
