@@ -181,6 +181,7 @@ impl Channel {
             return Ok(false);
         };
         let Err(fault) = next.put(end) else {
+            drop(next);
             return Ok(true);
         };
         self.waiting.push_front_reserved(next);

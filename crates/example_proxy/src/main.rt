@@ -102,10 +102,10 @@ impl Program for Relays<'_> {
         let alloc = self.alloc;
         let client = server_end(alloc, "example_proxy", &ABILITIES)?;
         let client = Peer::new(alloc, stream, client, self.log)?;
-        let broker = client_end(alloc, "example_proxy", &ABILITIES, self.user, self.password)?;
         let stream = to.connect(number, self.broker)?;
+        let broker = client_end(alloc, "example_proxy", &ABILITIES, self.user, self.password)?;
         let broker = Peer::new(alloc, stream, broker, self.log)?;
-        self.relays.insert(number, Relay { client, broker })?;
+        drop(self.relays.insert(number, Relay { client, broker })?);
         Ok(())
     }
 

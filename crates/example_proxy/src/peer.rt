@@ -97,9 +97,10 @@ impl<R: Role> Peer<R> {
         if let Some(channel) = channels.get_mut(&heard.number) {
             if is_source && let EventRef::Part(_, part, _) = heard.event {
                 self.link.end.pass(part)?;
-            } else if let Some(partner) = channel.partner {
-                let asking = asked_by(self.alloc, &mut channel.coming, partner, heard)?;
-                self.push(partner, asking)?;
+            } else if let Some(partner) = channel.partner
+                && let Some(ask) = asked_by(self.alloc, &mut channel.coming, partner, heard)?
+            {
+                self.push(partner, ask)?;
             }
         } else if let EventRef::Opened(number) = heard.event {
             let partner = self.link.end.inner.open_channel()?;
@@ -131,11 +132,11 @@ impl<R: Role> Peer<R> {
     }
 
     /// Asks something on a channel, after what waits there. After a close nothing is.
-    fn push(&mut self, number: u16, asking: Option<Asking>) -> Done {
+    fn push(&mut self, number: u16, asking: Asking) -> Done {
         let is_over = self.link.is_over();
-        match (self.channels.get_mut(&number), asking) {
-            (Some(own), Some(ask)) if own.partner.is_some() && !is_over => Ok(own.push(ask)?),
-            _ => Ok(()),
+        match self.channels.get_mut(&number) {
+            Some(own) if own.partner.is_some() && !is_over => Ok(own.push(asking)?),
+            _ => Ok(drop(asking)),
         }
     }
 
@@ -154,7 +155,7 @@ impl<R: Role> Peer<R> {
 
     pub fn close(&mut self, code: u16, text: &str) -> Done {
         let text = ShortStr::text(self.alloc, text)?;
-        self.push(0, Some(Asking::Plain(Ask::Close(code, text), None)))
+        self.push(0, Asking::Plain(Ask::Close(code, text), None))
     }
 
     /// Closes the connection, and forgets what else waits.
