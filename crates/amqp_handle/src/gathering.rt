@@ -2,7 +2,7 @@
 //!
 //! The content of one channel is at hand, and those of other channels stand aside, since the frames of a content
 //! mostly follow one another. What is whole changes places with the octets of a content before it, so that most
-//! contents take no memory. Nothing else is kept: any other event is told as the end lends it, and so is the last part
+//! contents take no memory. Nothing else is kept: any other event goes on as the end lends it, and so is the last part
 //! of a body, where it is all of the body.
 ghost use Rattle.std.specs.Prelude.{◌≡◌, ◌<◌, ◌++◌, [], ℕ, None, Some, false, length, slice_get, IfOk, OnOk};
 ghost use Rattle.std.specs.HashMap.{IsUnchanged};
@@ -63,7 +63,7 @@ impl Parts {
     }
 }
 
-/// What is told of an event.
+/// What an end that gathers tells of an event.
 #[derive(Clone, Copy)]
 pub enum Gathered<'a> {
     /// Nothing: it is kept until its content is whole.
@@ -337,7 +337,7 @@ impl Gathering {
         }
     }
 
-    /// What is told of an event: a content once it is whole, at this place.
+    /// What to tell of an event: a content once it is whole, at this place.
     #[inline(always)]
     pub fn take_event<'a>(
         &mut self,
@@ -381,7 +381,7 @@ impl Gathering {
         }
     }
 
-    /// What is told of an event, if there is one.
+    /// What to tell of an event, if there is one.
     #[inline(never)]
     pub fn take<'a>(
         &mut self,

@@ -1,6 +1,6 @@
 //! The events of a piece that is fed to an end that gathers contents, all in one call.
 //!
-//! What is told of a frame is shown as it lies in the piece, or in the end's buffer. Of a content that is whole, what
+//! The event of a frame is shown as it lies in the piece, or in the end's buffer. Of a content that is whole, what
 //! came before its last part has the gathering's place of the same number; it is shown once all is fed.
 ghost use Rattle.std.specs.Prelude.{◌≡◌, ◌<◌, ◌≤◌, length, slice_get};
 ghost use Rattle.amqp_core.specs.Stream.EventRefView.{event_ref_there, event_ref_view};
@@ -16,7 +16,7 @@ use amqp_handle::{Gathered, Gathering, OutOfMemory, Parts};
 /// The number of a method without content, and of a content that is whole, which holds.
 const TOLD: u8 = 3;
 
-/// Shows what is told in its place, and answers whether something is. Of a content that is whole, it shows the last
+/// Shows an event in its place, and answers whether there is one. Of a content that is whole, it shows the last
 /// part.
 #[inline(always)]
 fn show_told<'a>(
@@ -47,7 +47,7 @@ fn show_told<'a>(
     }
 }
 
-/// Gathers an event that lies in the piece, and shows what is told of it in the next place.
+/// Gathers an event that lies in the piece, and shows what comes of it in the next place.
 #[inline(always)]
 fn gather_event<'a>(
     gathering: &mut Gathering,
@@ -77,7 +77,7 @@ fn gather_event<'a>(
     }
 }
 
-/// Feeds an end with the frames that lie in a piece, as long as there is a place for what is told of the next. It
+/// Feeds an end with the frames that lie in a piece, as long as there is a place for the next event. It
 /// answers the step whose event, if there is one, doesn't lie in the piece, or the status of what went wrong.
 #[inline(always)]
 fn gather_frames<'a, R: Role>(
@@ -116,7 +116,7 @@ fn gather_frames<'a, R: Role>(
     Ok(None)
 }
 
-/// Gathers the event of a frame that doesn't lie in the piece, if there is one, and shows what is told of it.
+/// Gathers the event of a frame that doesn't lie in the piece, if there is one, and shows what comes of it.
 #[inline(never)]
 fn gather_last<'a>(
     gathering: &mut Gathering,
