@@ -1,13 +1,15 @@
 -- Reading a pair and adding it to those before.
-use Rattle.std.proofs.Common.{◌≡◌, ◌∙◌, ap, ℕ, zero, suc, ◌-◌, ◌≤◌, List, ◌∷◌, length, take, drop, Some, Ok, ltb, false, refl, arith}
-use Rattle.std.proofs.lemmas.Bool.{le-ltb}
+use Rattle.std.proofs.Common.{◌≡◌, ◌∙◌, ap, ℕ, zero, suc, ◌-◌, ◌≤◌, List, [], ◌∷◌, length, take, drop, Some, Ok, ltb, false, refl, arith, rules, length-take}
+use Rattle.std.proofs.lemmas.Bool.{le-ltb, ltb-false}
 use Rattle.std.proofs.lemmas.List.{take_rest, length-drop}
 use Rattle.byteorder.specs.Endian.{big_number}
 use Rattle.amqp_value.specs.Reading.{Reader, counted, name_at, named, under, after_tag, tagged, tag_of, width_of, scalar_of, value_at}
 use Rattle.amqp_value.specs.Values.{scalar, long_string}
 use Rattle.amqp_value.specs.declared.tag.ScalarTag.{ScalarTag}
-use Rattle.amqp_value.specs.declared.tag.ScalarTag.TheVariants as scalars
 use Rattle.amqp_value.specs.declared.tag.Tag.TheVariants.{Fixed}
+use Rattle.amqp_value.specs.declared.values.Value.{LongString, the_lemmas}
+use Rattle.amqp_value.specs.View.{view}
+use Rattle.amqp_value.proofs.Elements.{guard_ok, ok_is}
 
 -- after a name, what is read under it
 pub named-is : {X : Type 0} (read : Reader X) (end : ℕ) (octets name field : List ℕ) → name_at end octets ≡ Ok (name, field) → named read end octets ≡ under name (read end field)
@@ -19,6 +21,29 @@ pub name-is : (end length_octet n : ℕ) (octets : List ℕ) → n ≡ length_oc
 name-is end length_octet n octets is fits =
     let there : ltb (length octets) n ≡ false = le-ltb _ _ fits in
     rw (← is, there) refl
+
+-- the name that octets begin with stands after their first
+pub name-after : (octets name field : List ℕ) → name_at 0 octets ≡ Ok (name, field) → take (length name) (drop 1 octets) ≡ name
+name-after [] name field read = absurd cc
+name-after (n ∷ octets) name field read =
+    let fits = guard_ok (ltb (length octets) n) _ _ (name, field) read in
+    let name_is : take n octets ≡ name = ap (λ x. x.0) (ok_is _ _ fits.1) in
+    let long : length name ≡ n = omega (arith, ap length name_is, length-take n octets, ltb-false _ _ fits.0) in
+    ap (λ k. take k octets) long ∙ name_is
+
+-- what a count counts stands after its four octets
+pub counted-after : (octets text after : List ℕ) → counted 0 octets ≡ Ok (text, after) → take (length text) (drop 4 octets) ≡ text
+counted-after octets text after read =
+    let n = big_number 4 octets in
+    let whole = guard_ok (ltb (length octets) 4) _ _ (text, after) read in
+    let fits = guard_ok (ltb (length octets - 4) n) _ _ (text, after) whole.1 in
+    let text_is : take n (drop 4 octets) ≡ text = ap (λ x. x.0) (ok_is _ _ fits.1) in
+    let long : length text ≡ n = omega (arith, ap length text_is, length-take n (drop 4 octets), length-drop 4 octets, ltb-false _ _ fits.0) in
+    ap (λ k. take k (drop 4 octets)) long ∙ text_is
+
+-- a long string of its own, as its datum
+pub view-LongString : (text : List ℕ) → view (LongString text) ≡ long_string text
+view-LongString text = search (rules, the_lemmas)
 
 -- a count that fits what follows it
 pub counted-is : (end : ℕ) (octets : List ℕ) → 4 ≤ length octets → big_number 4 octets ≤ length octets - 4
@@ -42,23 +67,6 @@ text-read levels end octet n rest text is long is_n is_text there =
     let fits : big_number 4 rest ≤ length rest - 4 = omega (arith, length-drop 4 rest, ap length same) in
     let read : counted end rest ≡ Ok (take n text, drop n text) = rw (is_n, same) (counted-is end rest long fits) in
     rw (take_rest text n) (long_string-read levels end octet rest (take n text) (drop n text) is read)
-
-pub width-most : (tag : ScalarTag) → width_of tag ≤ 8
-width-most scalars.Boolean = omega arith
-width-most scalars.ShortShortInt = omega arith
-width-most scalars.ShortShortUint = omega arith
-width-most scalars.ErrataShortInt = omega arith
-width-most scalars.ShortInt = omega arith
-width-most scalars.ShortUint = omega arith
-width-most scalars.LongInt = omega arith
-width-most scalars.LongUint = omega arith
-width-most scalars.ErrataLongLongInt = omega arith
-width-most scalars.LongLongInt = omega arith
-width-most scalars.Float = omega arith
-width-most scalars.Double = omega arith
-width-most scalars.Decimal = omega arith
-width-most scalars.Timestamp = omega arith
-width-most scalars.Void = omega arith
 
 -- a value of fixed size that lies whole in what follows its tag
 pub scalar-read : (levels end octet : ℕ) (rest : List ℕ) (tag : ScalarTag) → tag_of octet ≡ Some (Fixed tag) → width_of tag ≤ length rest

@@ -2,16 +2,16 @@
 
 ghost use Rattle.std.specs.Prelude.{◌≡◌, ◌++◌, ◌∷◌, [], ◌-◌, ◌≤◌, ◌<◌, ℕ, length, drop, map, IfOk, IfSome, None, Ok, vec_len, vec_capacity};
 ghost use Rattle.amqp_value.specs.Lent.{value_ref_view};
-ghost use Rattle.amqp_value.specs.Reading.{AddsOne, under, name_at, width_of, scalar_of, named, value_at};
-ghost use Rattle.amqp_value.specs.Values.{scalar, long_string};
+ghost use Rattle.amqp_value.specs.Reading.{AddsOne, width_of, scalar_of, named, value_at};
+ghost use Rattle.amqp_value.specs.Values.{scalar};
 ghost use Rattle.amqp_value.specs.View.{view, named_view};
 ghost use Rattle.amqp_value.specs.Whole.{items_encoded, pairs_encoded, AreItems, ArePairs, BeginsPair};
 
 use crate::fault::OutOfMemory;
 use crate::octets::Octets;
 use crate::short_str::ShortStr;
-use crate::split::{split_name, split_value};
-use crate::tag::{ScalarTag, Tag, tag_from};
+use crate::split::{split_counted, split_name, split_tag, split_value};
+use crate::tag::{ScalarTag, Tag};
 use crate::value_ref::ValueRef;
 use crate::values::Value;
 use byteorder::{BigEndian, ByteOrder};
@@ -25,9 +25,6 @@ const EXPECTED_PAIR: usize = 12;
 const EXPECTED_VALUE: usize = 8;
 
 const FEW: usize = 8;
-
-/// How many octets the widest value of fixed size has after its tag.
-const WIDEST: usize = 8;
 
 /// The value of fixed size that the octets after its tag are.
 #[inline(always)]
@@ -105,100 +102,38 @@ fn push_scalar(pairs: &mut Vec<(ShortStr, Value)>, name: ShortStr, tag: ScalarTa
     }
 }
 
-/// The tag of a value of fixed size, its octets, and those after it, where there are so many octets that the widest
-/// would lie in them.
-///
-/// So no width has to be looked at, and each kind is met by one jump.
-#[inline(always)]
-#[tactic(auto, unfolding(crate::specs::Reading::value_at, crate::specs::Reading::tagged, crate::specs::Reading::after_tag))]
-fn scalar_octets(octets: &[u8]) -> Option<(ScalarTag, &[u8], &[u8])>
-    ensures width { IfSome result (λ x. length x.1.now ≡ width_of x.0) }
-    ensures read { IfSome result (λ x. (levels end : ℕ)
-        → value_at levels end octets.now ≡ Ok (scalar (scalar_of x.0 x.1.now), x.2.now)) }
-{
-    let (octet, rest) = octets.split_first()?;
-    if rest.len() < WIDEST {
-        return None;
-    }
-    let tag = tag_from(*octet)?;
-    match tag {
-        Tag::Fixed(tag) => {
-            let (field, after) = rest.split_at(tag.width());
-            Some((tag, field, after))
-        }
-        _ => None,
-    }
-}
-
-/// A long string that lies whole in the octets and is short, and the octets after it.
-#[inline(always)]
-#[tactic(auto, unfolding(crate::specs::Reading::value_at, crate::specs::Reading::tagged, crate::specs::Reading::after_tag))]
-fn short_text(octets: &[u8]) -> Option<(Octets, &[u8])>
-    ensures { IfSome result (λ x. (levels end : ℕ) → value_at levels end octets.now ≡ Ok (long_string x.0, x.1.now)) }
-{
-    let (octet, rest) = octets.split_first()?;
-    if *octet != b'S' || rest.len() < 4 {
-        return None;
-    }
-    let count = BigEndian::read_u32(rest) as usize;
-    let text = &rest[4..];
-    if text.len() < count {
-        return None;
-    }
-    Some((Octets::words(text, count)?, &text[count..]))
-}
-
-/// A name that lies whole in the octets and is short, and the octets after it.
-#[inline(always)]
-fn short_name(octets: &[u8]) -> Option<(ShortStr, &[u8])>
-    ensures { IfSome result (λ x. (end : ℕ) → name_at end octets.now ≡ Ok (x.0, x.1.now)) }
-{
-    let (length, after) = octets.split_first()?;
-    let length = usize::from(*length);
-    if after.len() < length {
-        return None;
-    }
-    Some((ShortStr::words(after, length)?, &after[length..]))
-}
-
-/// Adds a pair whose value is a short text, where there is room for it. The answer is the octets after it.
-#[inline(always)]
-fn push_short_text<'a>(
-    pairs: &mut Vec<(ShortStr, Value)>,
-    name: ShortStr,
-    field: &'a [u8],
-) -> Option<&'a [u8]>
-    requires room { vec_len pairs.old < vec_capacity pairs.old }
-    ensures added { IfSome result (λ rest. (levels end : ℕ)
-        → AddsOne (map named_view pairs.old.items) (under name (value_at levels end field.now)) rest.now
-        (map named_view pairs.new.items)) }
-    ensures kept { result ≡ None → pairs.new.items ≡ pairs.old.items }
-{
-    let (text, after) = short_text(field)?;
-    pairs.push_reserved((name, Value::LongString(text)));
-    Some(after)
-}
-
 /// Builds a pair that takes no memory, and adds it: the name is short, the value has a fixed size or is a short text,
 /// and there is room among the pairs. The answer is the octets after it.
 ///
-/// Most pairs are such: [`own_pair`] builds what this one leaves.
+/// Most pairs are such: [`own_pair`] builds what this one leaves. What the octets are known to hold is not looked at: a
+/// whole name with a whole value, whose tag is one of the nineteen.
 #[inline(always)]
 fn own_short_pair<'a>(pairs: &mut Vec<(ShortStr, Value)>, octets: &'a [u8]) -> Option<&'a [u8]>
-    ensures added { IfSome result (λ rest. (levels end : ℕ)
-        → AddsOne (map named_view pairs.old.items) (named (value_at levels) end octets.now) rest.now
-        (map named_view pairs.new.items)) }
+    requires { BeginsPair octets.now }
+    ensures added { IfSome result (λ rest. AddsOne (map named_view pairs.old.items) (named (value_at 31) 0 octets.now)
+        rest.now (map named_view pairs.new.items)) }
     ensures kept { result ≡ None → pairs.new.items ≡ pairs.old.items }
 {
     if pairs.len() == pairs.capacity() {
         return None;
     }
-    let (name, field) = short_name(octets)?;
-    if let Some((tag, value, after)) = scalar_octets(field) {
-        push_scalar(pairs, name, tag, value);
-        return Some(after);
+    let (name, field) = split_name(octets);
+    let name = ShortStr::words(&octets[1..], name.len())?;
+    let (tag, rest) = split_tag(field);
+    match tag {
+        Tag::Fixed(tag) => {
+            let (value, after) = rest.split_at(tag.width());
+            push_scalar(pairs, name, tag, value);
+            Some(after)
+        }
+        Tag::LongString => {
+            let (text, after) = split_counted(rest);
+            let text = Octets::words(&rest[4..], text.len())?;
+            pairs.push_reserved((name, Value::LongString(text)));
+            Some(after)
+        }
+        Tag::ByteArray | Tag::Array | Tag::Table => None,
     }
-    push_short_text(pairs, name, field)
 }
 
 /// Builds a pair of a table, and adds it. The answer is how many octets are left after it.

@@ -26,7 +26,7 @@ pub fn split_name(octets: &[u8]) -> (&[u8], &[u8])
 
 /// What a count of four octets counts, and the octets after it.
 #[inline(always)]
-fn split_counted(octets: &[u8]) -> (&[u8], &[u8])
+pub fn split_counted(octets: &[u8]) -> (&[u8], &[u8])
     requires { BeginsCounted octets.now }
     ensures { counted 0 octets.now ≡ Ok (result.0.now, result.1.now) }
 {
@@ -95,7 +95,7 @@ fn split_octet(octets: &[u8]) -> (u8, &[u8])
 
 /// The tag that octets begin with, and the octets after it.
 #[inline(always)]
-fn split_tag(octets: &[u8]) -> (Tag, &[u8])
+pub fn split_tag(octets: &[u8]) -> (Tag, &[u8])
     requires { BeginsValue octets.now }
     ensures { Tagged octets.now result.0 result.1.now }
 {

@@ -66,6 +66,10 @@ pub own_pair-returns-clause-within : goal.own_pair-returns-clause-within
 own_pair-returns-clause-within t c =
     omega (arith, c.split_name.ensures.within, (value_at-consumes 31 0).consumes c.split_name.result.1.now (value_ref_view c.split_value.result.0, c.split_value.result.1.now) c.split_value.ensures.read)
 
+pub own_pairs-own_short_pair-requires : goal.own_pairs-own_short_pair-requires
+own_pairs-own_short_pair-requires t c =
+    begins-pair c.loop-rest.rest.now c.loop-rest.invariant.1 (some_left c.loop-rest.rest.now _ c.is_empty.ensures c.loop-rest-test.true)
+
 pub own_pairs-own_pair-requires : goal.own_pairs-own_pair-requires
 own_pairs-own_pair-requires t c =
     let whole = begins-pair c.loop-rest.rest.now c.loop-rest.invariant.1 (some_left c.loop-rest.rest.now _ c.is_empty.ensures c.loop-rest-test.true) in
@@ -73,13 +77,13 @@ own_pairs-own_pair-requires t c =
 
 pub own_pairs-loop-rest-smaller-in-Some : goal.own_pairs-loop-rest-smaller-in-Some
 own_pairs-loop-rest-smaller-in-Some t c =
-    let one = c.in-Some.ensures.added 31 0 in
+    let one = c.in-Some.ensures.added in
     (pair-consumes 31 0).consumes c.loop-rest.rest.now (one.element, c.in-Some.after.now) one.is_read
 
 pub own_pairs-loop-rest-preserved-in-Some : goal.own_pairs-loop-rest-preserved-in-Some
 own_pairs-loop-rest-preserved-in-Some t c =
     let long = some_left c.loop-rest.rest.now _ c.is_empty.ensures c.loop-rest-test.true in
-    adds c.args.body.now c.loop-rest.rest.now c.in-Some.after.now (map named_view c.loop-rest.pairs.items) (map named_view c.own_short_pair.new.pairs.items) (c.in-Some.ensures.added 31 0)
+    adds c.args.body.now c.loop-rest.rest.now c.in-Some.after.now (map named_view c.loop-rest.pairs.items) (map named_view c.own_short_pair.new.pairs.items) (c.in-Some.ensures.added)
     c.loop-rest.invariant.1 long c.loop-rest.invariant.0 c.loop-rest.invariant.2
 
 pub own_pairs-loop-rest-smaller : goal.own_pairs-loop-rest-smaller
