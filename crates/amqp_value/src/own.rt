@@ -1,6 +1,6 @@
 //! What is lent, built with memory of its own: of octets that were checked, so that it fails for memory alone.
 
-ghost use Rattle.std.specs.Prelude.{◌≡◌, ◌++◌, ◌∷◌, [], ◌-◌, ◌≤◌, ◌<◌, ℕ, length, drop, map, IfOk, IfSome, None, Ok, vec_len, vec_capacity};
+ghost use Rattle.std.specs.Prelude.{◌≡◌, ◌++◌, ◌∷◌, [], ◌-◌, ◌≤◌, ◌<◌, ℕ, length, drop, map, IfOk, IfSome, OnOk, None, Ok, vec_len, vec_capacity};
 ghost use Rattle.amqp_value.specs.Lent.{value_ref_view};
 ghost use Rattle.amqp_value.specs.Reading.{AddsOne, width_of, scalar_of, named, value_at};
 ghost use Rattle.amqp_value.specs.Values.{scalar};
@@ -157,24 +157,44 @@ fn own_pair(
     Ok(after.len())
 }
 
-/// The pairs of a table, whose octets these are.
+/// Builds the pairs of a table, whose octets these are, in the place of what was there. The answer is whether all of
+/// them are known to lie in place, so that none has memory of its own.
+///
+/// After a fault, what was there may still stand there, or some of the new pairs.
 #[cycle(own)]
-pub fn own_pairs(alloc: Global, body: &[u8]) -> Result<Vec<(ShortStr, Value)>, OutOfMemory>
+pub fn fill_pairs(
+    alloc: Global,
+    pairs: &mut Vec<(ShortStr, Value)>,
+    body: &[u8],
+) -> Result<bool, OutOfMemory>
     requires { ArePairs body.now }
-    ensures { IfOk result (λ pairs. map named_view pairs.items ≡ pairs_encoded body.now) }
+    ensures { OnOk result (map named_view pairs.new.items ≡ pairs_encoded body.now) }
 {
-    let mut pairs = Vec::with_capacity(alloc, body.len().div_ceil(EXPECTED_PAIR).min(FEW))?;
+    *pairs = Vec::with_capacity(alloc, body.len().div_ceil(EXPECTED_PAIR).min(FEW))?;
     let mut rest = body;
+    let mut in_place = true;
     while !rest.is_empty() {
-        rest = match own_short_pair(&mut pairs, rest) {
+        rest = match own_short_pair(pairs, rest) {
             Some(after) => after,
             None => {
-                let left = own_pair(alloc, &mut pairs, rest)?;
+                in_place = false;
+                let left = own_pair(alloc, pairs, rest)?;
                 &rest[rest.len() - left..]
             }
         };
     }
     pairs.shrink_to_fit();
+    Ok(in_place)
+}
+
+/// The pairs of a table, whose octets these are.
+#[cycle(own)]
+fn own_pairs(alloc: Global, body: &[u8]) -> Result<Vec<(ShortStr, Value)>, OutOfMemory>
+    requires { ArePairs body.now }
+    ensures { IfOk result (λ pairs. map named_view pairs.items ≡ pairs_encoded body.now) }
+{
+    let mut pairs = Vec::new(alloc);
+    fill_pairs(alloc, &mut pairs, body)?;
     Ok(pairs)
 }
 

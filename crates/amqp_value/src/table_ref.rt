@@ -4,7 +4,6 @@ ghost use Rattle.amqp_value.specs.Whole.{IsTable};
 
 use crate::check::check_table;
 use crate::fault::{OutOfMemory, ValueFault};
-use crate::own::own_pairs;
 use crate::pairs_ref::PairsRef;
 use crate::split::after_count;
 use crate::tables::Table;
@@ -21,13 +20,13 @@ pub struct TableRef<'a> {
 }
 
 impl<'a> TableRef<'a> {
-    ghost use Rattle.std.specs.Prelude.{◌≡◌, ◌==◌, ◌≤◌, length, take, IfOk, Ok, MatchOption, Some, None};
+    ghost use Rattle.std.specs.Prelude.{◌≡◌, ◌==◌, ◌≤◌, length, take, IfOk, Ok, OnOk, OnErr, MatchOption, Some, None};
     ghost use Rattle.amqp_value.specs.Checking.{Equals};
     ghost use Rattle.amqp_value.specs.Lent.{octets_of, table_ref_view, pairs_left, value_ref_view};
     ghost use Rattle.amqp_value.specs.Pairs.{pair_count, value_named};
     ghost use Rattle.amqp_value.specs.Reading.{table_at};
     ghost use Rattle.amqp_value.specs.Tables.{table_view};
-    ghost use Rattle.amqp_value.specs.Values.{pairs_of, table_depth};
+    ghost use Rattle.amqp_value.specs.Values.{no_pairs, pairs_of, table_depth};
     ghost use Rattle.amqp_value.specs.Whole.{pairs_encoded, ArePairs, BeginsTable};
 
     /// The table that a prefix of the octets encodes. Faults are those of [`check_table`](crate::check_table).
@@ -102,7 +101,17 @@ impl<'a> TableRef<'a> {
     pub fn to_owned(self, alloc: Global) -> Result<Table, OutOfMemory>
         ensures { IfOk result (λ t. table_view t ≡ table_ref_view self.entry) }
     {
-        let pairs = own_pairs(alloc, self.body())?;
-        Ok(Table::of_checked(pairs))
+        let mut table = Table::new(alloc);
+        self.read_into(alloc, &mut table)?;
+        Ok(table)
+    }
+
+    /// Makes another table the same as this one, with memory of its own: what it was before is gone. After a fault the
+    /// table has no pairs.
+    pub fn read_into(self, alloc: Global, table: &mut Table) -> Result<(), OutOfMemory>
+        ensures same { OnOk result (table_view table.new ≡ table_ref_view self.entry) }
+        ensures fault { OnErr result (table_view table.new ≡ no_pairs) }
+    {
+        table.fill(alloc, self.body())
     }
 }

@@ -6,20 +6,26 @@ ghost use Rattle.amqp_value.specs.View.{pairs_view};
 
 use crate::fault::{OutOfMemory, ValueFault, ValueFaultKind};
 use crate::length::table_length;
+use crate::own::fill_pairs;
 use crate::queries::{find, place_of};
 use crate::short_str::ShortStr;
-use crate::values::{Value, copy_pairs, drop_pairs, nests_within, pairs_nest_within};
+use crate::values::{
+    Value, clear_pairs, copy_pairs, drop_pairs, forget_pairs, nests_within, pairs_nest_within,
+};
 use std::alloc::Global;
 use std::mem::replace;
-use std::slice;
+use std::{fmt, slice};
 
 /// How deep tables and arrays may nest: a table has depth 1, and each table or array inside adds 1.
 pub const MAX_DEPTH: usize = 32;
 
 /// A field table: names with values, in order, repeats kept, at most [`MAX_DEPTH`] deep.
-#[derive(Debug, PartialEq, Eq)]
+#[derive_where(PartialEq, Eq)]
 pub struct Table {
     pairs: Vec<(ShortStr, Value)>,
+    /// Whether it is known that no pair has memory of its own to give back, so that none is looked at to be dropped.
+    #[derive_where(skip(EqHashOrd))]
+    in_place: bool,
     pub ghost depth_is_bounded: { table_depth (pairs_view pairs.items) ≤ 32 },
 }
 
@@ -28,8 +34,19 @@ pub struct Table {
 impl Drop for Table {
     #[inline(always)]
     fn drop(self) {
-        let Table { pairs } = self;
-        drop_pairs(pairs);
+        let Table { pairs, in_place } = self;
+        if in_place {
+            forget_pairs(pairs);
+        } else {
+            drop_pairs(pairs);
+        }
+    }
+}
+
+impl fmt::Debug for Table {
+    /// The pairs alone: whether they lie in place doesn't show.
+    fn fmt<W: fmt::Write>(&self, f: &mut fmt::Formatter<W>) -> fmt::Result {
+        f.debug_struct("Table").field("pairs", &self.pairs).finish()
     }
 }
 
@@ -42,8 +59,9 @@ impl Table {
     ghost use Rattle.amqp_value.specs.Plain.{plain_table};
     ghost use Rattle.amqp_value.specs.Faults.{fault_at, out_of_memory};
     ghost use Rattle.amqp_value.specs.Tables.{table_view};
-    ghost use Rattle.amqp_value.specs.Values.{no_pairs, with_pair};
+    ghost use Rattle.amqp_value.specs.Values.{no_pairs, pairs_of, with_pair};
     ghost use Rattle.amqp_value.specs.View.{view};
+    ghost use Rattle.amqp_value.specs.Whole.{pairs_encoded, ArePairs};
     ghost use Rattle.amqp_value.specs.declared.fault.ValueFaultKind.TheVariants.{TooDeep};
 
     /// A table of no pairs, which takes no memory yet.
@@ -52,6 +70,26 @@ impl Table {
     {
         Table {
             pairs: Vec::new(alloc),
+            in_place: true,
+        }
+    }
+
+    /// Puts the pairs that these octets encode in the place of those that were there. After a fault there are none.
+    pub(crate) fn fill(&mut self, alloc: Global, body: &[u8]) -> Result<(), OutOfMemory>
+        requires whole { ArePairs body.now }
+        requires deep { table_depth (pairs_of (pairs_encoded body.now)) ≤ 32 }
+        ensures filled { OnOk result (table_view self.new ≡ pairs_of (pairs_encoded body.now)) }
+        ensures fault { OnErr result (table_view self.new ≡ no_pairs) }
+    {
+        match fill_pairs(alloc, &mut self.pairs, body) {
+            Ok(in_place) => {
+                self.in_place = in_place;
+                Ok(())
+            }
+            Err(fault) => {
+                clear_pairs(&mut self.pairs);
+                Err(fault)
+            }
         }
     }
 
@@ -59,7 +97,10 @@ impl Table {
         requires { table_depth (pairs_view pairs.items) ≤ 32 }
         ensures { table_view result ≡ pairs_view pairs.items }
     {
-        Table { pairs }
+        Table {
+            pairs,
+            in_place: false,
+        }
     }
 
     /// The table of these pairs. Pairs that would nest deeper than [`MAX_DEPTH`] are given back.
@@ -69,7 +110,10 @@ impl Table {
         ensures same { IfErr result (λ back. back.items ≡ pairs.items) }
     {
         if pairs_nest_within(&pairs, MAX_DEPTH - 1) {
-            Ok(Table { pairs })
+            Ok(Table {
+                pairs,
+                in_place: false,
+            })
         } else {
             Err(pairs)
         }
@@ -90,6 +134,7 @@ impl Table {
                 kind: ValueFaultKind::TooDeep,
             });
         }
+        self.in_place = false;
         self.pairs.push((name, value))?;
         Ok(())
     }
@@ -107,6 +152,7 @@ impl Table {
                 kind: ValueFaultKind::TooDeep,
             });
         }
+        self.in_place = false;
         match place_of(&self.pairs, name.as_bytes()) {
             Some(place) => Ok(Some(replace(&mut self.pairs[place].1, value))),
             None => {
@@ -145,7 +191,7 @@ impl Table {
         ensures pairs { pairs_view result.items ≡ table_view self }
         ensures deep { table_depth (pairs_view result.items) ≤ 32 }
     {
-        let Table { pairs } = self;
+        let Table { pairs, in_place: _ } = self;
         pairs
     }
 
@@ -192,6 +238,9 @@ impl Table {
         ensures { IfOk result (λ t. table_view t ≡ table_view self.now) }
     {
         let pairs = copy_pairs(&self.pairs)?;
-        Ok(Table { pairs })
+        Ok(Table {
+            pairs,
+            in_place: false,
+        })
     }
 }

@@ -1,7 +1,7 @@
 //! Field values.
 
 ghost use Rattle.std.specs.Prelude.{◌≡◌, ◌≤◌, ◌↔◌, IsTrue, IfOk};
-ghost use Rattle.amqp_value.specs.Values.{depth, pairs_depth, long_string};
+ghost use Rattle.amqp_value.specs.Values.{depth, pairs_depth, long_string, no_pairs};
 ghost use Rattle.amqp_value.specs.View.{view, items_view, pairs_view};
 
 use crate::fault::OutOfMemory;
@@ -163,6 +163,24 @@ pub(crate) fn drop_pairs(mut pairs: Vec<(ShortStr, Value)>) {
         }
     }
     pairs.destroy_empty();
+}
+
+/// Drops pairs of which none has memory of its own: their own room alone is given back.
+#[inline(always)]
+pub(crate) fn forget_pairs(mut pairs: Vec<(ShortStr, Value)>) {
+    while let Some(pair) = pairs.pop() {
+        forget(pair);
+    }
+    pairs.destroy_empty();
+}
+
+/// Takes all pairs out: where memory ran out before the last of them was built.
+#[cold]
+#[inline(never)]
+pub(crate) fn clear_pairs(pairs: &mut Vec<(ShortStr, Value)>)
+    ensures { pairs_view pairs.new.items ≡ no_pairs }
+{
+    pairs.clear();
 }
 
 /// Whether arrays and tables nest at most so many levels deep in a value, which is one level itself

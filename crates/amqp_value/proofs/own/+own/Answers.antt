@@ -66,35 +66,35 @@ pub own_pair-returns-clause-within : goal.own_pair-returns-clause-within
 own_pair-returns-clause-within t c =
     omega (arith, c.split_name.ensures.within, (value_at-consumes 31 0).consumes c.split_name.result.1.now (value_ref_view c.split_value.result.0, c.split_value.result.1.now) c.split_value.ensures.read)
 
-pub own_pairs-own_short_pair-requires : goal.own_pairs-own_short_pair-requires
-own_pairs-own_short_pair-requires t c =
+pub fill_pairs-own_short_pair-requires : goal.fill_pairs-own_short_pair-requires
+fill_pairs-own_short_pair-requires t c =
     begins-pair c.loop-rest.rest.now c.loop-rest.invariant.1 (some_left c.loop-rest.rest.now _ c.is_empty.ensures c.loop-rest-test.true)
 
-pub own_pairs-own_pair-requires : goal.own_pairs-own_pair-requires
-own_pairs-own_pair-requires t c =
+pub fill_pairs-own_pair-requires : goal.fill_pairs-own_pair-requires
+fill_pairs-own_pair-requires t c =
     let whole = begins-pair c.loop-rest.rest.now c.loop-rest.invariant.1 (some_left c.loop-rest.rest.now _ c.is_empty.ensures c.loop-rest-test.true) in
     (omega (arith, c.loop-rest.invariant.0), whole)
 
-pub own_pairs-loop-rest-smaller-in-Some : goal.own_pairs-loop-rest-smaller-in-Some
-own_pairs-loop-rest-smaller-in-Some t c =
+pub fill_pairs-loop-rest-smaller-in-Some : goal.fill_pairs-loop-rest-smaller-in-Some
+fill_pairs-loop-rest-smaller-in-Some t c =
     let one = c.in-Some.ensures.added in
     (pair-consumes 31 0).consumes c.loop-rest.rest.now (one.element, c.in-Some.after.now) one.is_read
 
-pub own_pairs-loop-rest-preserved-in-Some : goal.own_pairs-loop-rest-preserved-in-Some
-own_pairs-loop-rest-preserved-in-Some t c =
+pub fill_pairs-loop-rest-preserved-in-Some : goal.fill_pairs-loop-rest-preserved-in-Some
+fill_pairs-loop-rest-preserved-in-Some t c =
     let long = some_left c.loop-rest.rest.now _ c.is_empty.ensures c.loop-rest-test.true in
     adds c.args.body.now c.loop-rest.rest.now c.in-Some.after.now (map named_view c.loop-rest.pairs.items) (map named_view c.own_short_pair.new.pairs.items) (c.in-Some.ensures.added)
     c.loop-rest.invariant.1 long c.loop-rest.invariant.0 c.loop-rest.invariant.2
 
-pub own_pairs-loop-rest-smaller : goal.own_pairs-loop-rest-smaller
-own_pairs-loop-rest-smaller t c =
+pub fill_pairs-loop-rest-smaller : goal.fill_pairs-loop-rest-smaller
+fill_pairs-loop-rest-smaller t c =
     let rest = c.loop-rest.rest.now in
     let place = length rest - c.in_ok-left-in-None.left in
     let one = c.in_ok-left-in-None.ensures.added in
     subst (λ after. length after < length rest) (sym (take_rest rest place)) ((pair-consumes 31 0).consumes rest (one.element, drop place rest) one.is_read)
 
-pub own_pairs-loop-rest-preserved : goal.own_pairs-loop-rest-preserved
-own_pairs-loop-rest-preserved t c =
+pub fill_pairs-loop-rest-preserved : goal.fill_pairs-loop-rest-preserved
+fill_pairs-loop-rest-preserved t c =
     let rest = c.loop-rest.rest.now in
     let place = length rest - c.in_ok-left-in-None.left in
     let after = take (length rest - place) (drop place rest) in
@@ -103,7 +103,7 @@ own_pairs-loop-rest-preserved t c =
     rw (take_rest rest place, ← c.in-None.ensures.kept refl) c.in_ok-left-in-None.ensures.added in
     adds c.args.body.now rest after (map named_view c.loop-rest.pairs.items) (map named_view c.own_pair.new.pairs.items) one c.loop-rest.invariant.1 long c.loop-rest.invariant.0 c.loop-rest.invariant.2
 
-pub own_pairs-returns : goal.own_pairs-returns
-own_pairs-returns t c =
+pub fill_pairs-returns : goal.fill_pairs-returns
+fill_pairs-returns t c =
     rw c.shrink_to_fit.ensures.items (all-pairs c.loop-rest.rest.now (map named_view c.loop-rest.pairs.items) (pairs_encoded c.args.body.now)
     (none_left c.loop-rest.rest.now _ c.is_empty.ensures c.loop-rest-test.false) c.loop-rest.invariant.2)
