@@ -1,15 +1,18 @@
 -- Arguments that are built for fields that are known.
-use Rattle.std.proofs.Common.{◌≡◌, ℕ, List, [], ◌∷◌, ◌++◌, length, map, drop, Bool, ap, subst, sym, ◌∙◌, arith}
-use Rattle.amqp_method.specs.Arguments.{Argument, keep}
+use Rattle.std.proofs.Common.{◌≡◌, ℕ, List, [], ◌∷◌, ◌++◌, length, map, drop, Bool, Ok, Err, refl, ap, subst, sym, ◌∙◌, arith}
+use Rattle.std.specs.Prelude.{IsOk}
+use Rattle.amqp_method.specs.Arguments.{Argument, short, long_long, short_string}
 use Rattle.amqp_method.specs.KnownFields.{BeginsWith}
 use Rattle.amqp_method.specs.MethodRefs.{values_read}
 use Rattle.amqp_method.specs.Methods.{FieldRow}
-use Rattle.amqp_method.specs.Reading.{Bits, args_at}
+use Rattle.amqp_method.specs.Reading.{Bits, read_bit, read_number, short_string_at, ends_run, field_at, args_at}
 use Rattle.amqp_method.specs.Rows.{field_view}
+use Rattle.amqp_method.specs.declared.faults.MethodFault.{MethodFault}
 use Rattle.amqp_method.specs.declared.fields.Field.{Field}
 use Rattle.amqp_method.specs.declared.fields.FieldKind.{FieldKind}
-use Rattle.amqp_method.proofs.OwningLemmas.{built_more, all_built}
-use Rattle.amqp_method.proofs.RefLemmas.{no_values}
+use Rattle.amqp_method.specs.declared.fields.FieldKind.TheVariants.{Bit, Short, LongLong, ShortStr}
+use Rattle.amqp_method.proofs.OwningLemmas.{all_built}
+use Rattle.amqp_method.proofs.RefLemmas.{no_values, first_value, no_fault, Others}
 
 -- there is a first field
 pub begins_none : (kind : FieldKind) (reserved : Bool) (fields : List Field) → length fields ≡ 0 → BeginsWith kind reserved (map field_view fields) → ⊥
@@ -25,11 +28,41 @@ pub others_left : (fields : List Field) (f : Field) (others after : List Field) 
     → map field_view after ≡ drop 1 (map field_view fields)
 others_left fields f others after is left = ap (map field_view) left ∙ ap (λ (l : List Field). drop 1 (map field_view l)) (sym is)
 
--- its value was added, where it is known whether the field is reserved
-pub known_built : (old new after left : List Argument) (reserved row : Bool) (value : Argument)
-    → reserved ≡ row → left ≡ keep row value after → new ≡ old ++ keep reserved value [] → new ++ after ≡ old ++ left
-known_built old new after left reserved row value same value_is built =
-    built_more old new after left reserved value (value_is ∙ ap (λ (r : Bool). keep r value after) (sym same)) built
+-- its value is read, and what is left after it
+pub known_value : (kind : FieldKind) (reserved : Bool) (fields : List Field) (f : Field) (others : List Field) (bits left : Bits) (end : ℕ) (octets after : List ℕ) (value : Argument)
+    → fields ≡ f ∷ others → BeginsWith kind reserved (map field_view fields) → IsOk (args_at (map field_view fields) bits end octets)
+    → field_at kind bits end octets ≡ Ok ((value, left), after)
+    → Others reserved value (args_at (map field_view others) left end after) (args_at (map field_view fields) bits end octets)
+known_value kind reserved fields f others bits left end octets after value is first ok read =
+    let b = begins kind reserved fields f others is first in
+    subst (λ (r : Bool). Others r value (args_at (map field_view others) left end after) (args_at (map field_view fields) bits end octets)) (sym b.1)
+    (first_value (map field_view fields) (field_view f) (map field_view others) bits left end octets after value
+    (ap (map field_view) is) ok (ap (λ (k : FieldKind). field_at k bits end octets) (sym b.0) ∙ read))
+
+pub known_fits : (kind : FieldKind) (reserved : Bool) (fields : List Field) (f : Field) (others : List Field) (bits : Bits) (end : ℕ) (octets : List ℕ) (e : MethodFault)
+    → fields ≡ f ∷ others → BeginsWith kind reserved (map field_view fields) → IsOk (args_at (map field_view fields) bits end octets)
+    → field_at kind bits end octets ≡ Err e → ⊥
+known_fits kind reserved fields f others bits end octets e is first ok read =
+    let b = begins kind reserved fields f others is first in
+    no_fault (map field_view fields) (field_view f) (map field_view others) bits end octets e
+    (ap (map field_view) is) ok (ap (λ (k : FieldKind). field_at k bits end octets) (sym b.0) ∙ read)
+
+-- what a field of each kind is read by
+pub short_field : (bits : Bits) (end : ℕ) (octets : List ℕ) → field_at Short bits end octets ≡ ends_run short (read_number 2 end octets)
+unfolding field_at
+short_field bits end octets = refl
+
+pub long_long_field : (bits : Bits) (end : ℕ) (octets : List ℕ) → field_at LongLong bits end octets ≡ ends_run long_long (read_number 8 end octets)
+unfolding field_at
+long_long_field bits end octets = refl
+
+pub text_field : (bits : Bits) (end : ℕ) (octets : List ℕ) → field_at ShortStr bits end octets ≡ ends_run short_string (short_string_at end octets)
+unfolding field_at
+text_field bits end octets = refl
+
+pub bit_field : (bits : Bits) (end : ℕ) (octets : List ℕ) → field_at Bit bits end octets ≡ read_bit bits.left bits.packed end octets
+unfolding field_at
+bit_field bits end octets = refl
 
 -- all are built, where no field is left
 pub last_built : (fields : List FieldRow) (bits : Bits) (end : ℕ) (octets : List ℕ) (built all : List Argument)

@@ -18,8 +18,3 @@ pub record IsValueOf (kind : FieldKind) (value : Argument) : Type 0 where
 pub record IsTextOf (octets text : List ℕ) : Type 0 where
   pub are_there : length text < length octets
   pub text_is : text ≡ take (length text) (drop 1 octets)
-
--- where it is a short string, the octets begin with it
-abbrev pub BeginsText : List ℕ → Argument → Type 0
-BeginsText octets (short_string text) = IsTextOf octets text
-BeginsText octets other = Unit {0}

@@ -3,7 +3,7 @@ ghost use Rattle.std.specs.Prelude.{◌≡◌, ◌≤◌, ℕ, length, IfOk, Ok,
 ghost use Rattle.amqp_method.specs.ArgRefView.{arg_ref_view};
 ghost use Rattle.amqp_method.specs.Arguments.{kind_of};
 ghost use Rattle.amqp_method.specs.BitsView.{bits_view};
-ghost use Rattle.amqp_method.specs.Owning.{BeginsText, IsValueOf};
+ghost use Rattle.amqp_method.specs.Owning.{IsValueOf};
 ghost use Rattle.amqp_method.specs.Places.{bit_of, octet_of, short_of, long_of, long_long_of, short_string_of, long_string_of, table_of};
 ghost use Rattle.amqp_method.specs.Reading.{Equals, field_at, field_table_at};
 ghost use Rattle.amqp_value.specs.Lent.{table_ref_view};
@@ -59,7 +59,6 @@ pub(crate) fn read_arg<'a>(
         (field_at kind (bits_view bits.old) end octets.now) }
     ensures within { IfOk result (λ x. length x.1.now ≤ length octets.now) }
     ensures value { IfOk result (λ x. IsValueOf kind (arg_ref_view x.0)) }
-    ensures text { IfOk result (λ x. BeginsText octets.now (arg_ref_view x.0)) }
 {
     match kind {
         FieldKind::Bit => {

@@ -5,7 +5,7 @@ ghost use Rattle.amqp_method.specs.Reading.{args_at};
 ghost use Rattle.amqp_method.specs.Rows.{field_view};
 
 use crate::arg_ref::{ArgRef, read_arg};
-use crate::field_octets::Bits;
+use crate::field_octets::{Bits, read_bit, read_long_long, read_short, read_short_octets};
 use crate::fields::{Field, FieldKind};
 
 /// The arguments of a method that are left, as they lie in its payload. Reserved fields have none.
@@ -20,11 +20,13 @@ pub struct ArgsRef<'a> {
 }
 
 impl<'a> ArgsRef<'a> {
-    ghost use Rattle.std.specs.Prelude.{◌∷◌, ◌<◌, MatchOption, [], Some};
-    ghost use Rattle.amqp_method.specs.Arguments.{keep};
+    ghost use Rattle.std.specs.Prelude.{◌∷◌, ◌<◌, ◌^◌, MatchOption, [], Some, drop, true, false};
+    ghost use Rattle.amqp_method.specs.Arguments.{bit, keep, long_long, short_string};
     ghost use Rattle.amqp_method.specs.ArgRefView.{arg_ref_view};
+    ghost use Rattle.amqp_method.specs.KnownFields.{BeginsWith};
     ghost use Rattle.amqp_method.specs.MethodRefs.{args_left, values_read, NextArg, FirstValue};
-    ghost use Rattle.amqp_method.specs.Owning.{BeginsText, IsShort};
+    ghost use Rattle.amqp_method.specs.Owning.{IsShort, IsTextOf};
+    ghost use Rattle.amqp_method.specs.declared.fields.FieldKind.TheVariants as kinds;
     ghost use Rattle.amqp_method.specs.Reading.{no_bits};
 
     /// The arguments for these fields, which begin with the first of the octets, in a payload that ends at `end`.
@@ -55,7 +57,6 @@ impl<'a> ArgsRef<'a> {
         ensures value { args_left self.entry ≡ keep field.now.reserved (arg_ref_view result.0) (args_left result.1) }
         ensures left { result.1.fields.now ≡ fields.now }
         ensures short { IsShort (arg_ref_view result.0) }
-        ensures text { BeginsText self.entry.octets.now (arg_ref_view result.0) }
     {
         let mut bits = self.bits;
         match read_arg(kind, &mut bits, self.octets, self.end) {
@@ -70,6 +71,102 @@ impl<'a> ArgsRef<'a> {
             ),
             Err(_) => unreachable!(),
         }
+    }
+
+    /// What is left after a reserved number of 16 bits, which stands first.
+    #[inline(always)]
+    pub(crate) fn past_short(self) -> ArgsRef<'a>
+        requires { BeginsWith kinds.Short true (map field_view self.fields.now) }
+        ensures value { args_left self.entry ≡ args_left result }
+        ensures left { map field_view result.fields.now ≡ drop 1 (map field_view self.entry.fields.now) }
+    {
+        let Some((_, fields)) = self.fields.split_first() else {
+            unreachable!()
+        };
+        let Ok((_, octets)) = read_short(self.octets, self.end) else {
+            unreachable!()
+        };
+        ArgsRef {
+            fields,
+            bits: Bits::NONE,
+            octets,
+            end: self.end,
+        }
+    }
+
+    /// The number of 64 bits that stands first, and what is left after it.
+    #[inline(always)]
+    pub(crate) fn first_long_long(self) -> (u64, ArgsRef<'a>)
+        requires { BeginsWith kinds.LongLong false (map field_view self.fields.now) }
+        ensures value { args_left self.entry ≡ long_long result.0 ∷ args_left result.1 }
+        ensures left { map field_view result.1.fields.now ≡ drop 1 (map field_view self.entry.fields.now) }
+    {
+        let Some((_, fields)) = self.fields.split_first() else {
+            unreachable!()
+        };
+        let Ok((number, octets)) = read_long_long(self.octets, self.end) else {
+            unreachable!()
+        };
+        (
+            number,
+            ArgsRef {
+                fields,
+                bits: Bits::NONE,
+                octets,
+                end: self.end,
+            },
+        )
+    }
+
+    /// The bit that stands first, and what is left after it.
+    #[inline(always)]
+    pub(crate) fn first_bit(self) -> (bool, ArgsRef<'a>)
+        requires { BeginsWith kinds.Bit false (map field_view self.fields.now) }
+        ensures value { args_left self.entry ≡ bit result.0 ∷ args_left result.1 }
+        ensures left { map field_view result.1.fields.now ≡ drop 1 (map field_view self.entry.fields.now) }
+    {
+        let Some((_, fields)) = self.fields.split_first() else {
+            unreachable!()
+        };
+        let mut bits = self.bits;
+        let Ok((holds, octets)) = read_bit(&mut bits, self.octets, self.end) else {
+            unreachable!()
+        };
+        (
+            holds,
+            ArgsRef {
+                fields,
+                bits,
+                octets,
+                end: self.end,
+            },
+        )
+    }
+
+    /// The octets of the short string that stands first, and what is left after it.
+    #[inline(always)]
+    pub(crate) fn first_text(self) -> (&'a [u8], ArgsRef<'a>)
+        requires { BeginsWith kinds.ShortStr false (map field_view self.fields.now) }
+        ensures value { args_left self.entry ≡ short_string result.0.now ∷ args_left result.1 }
+        ensures left { map field_view result.1.fields.now ≡ drop 1 (map field_view self.entry.fields.now) }
+        ensures text { IsTextOf self.entry.octets.now result.0.now }
+        ensures short { length result.0.now < 2 ^ 8 }
+    {
+        let Some((_, fields)) = self.fields.split_first() else {
+            unreachable!()
+        };
+        let Ok((text, octets)) = read_short_octets(self.octets, self.end) else {
+            unreachable!()
+        };
+        (
+            text,
+            ArgsRef {
+                fields,
+                bits: Bits::NONE,
+                octets,
+                end: self.end,
+            },
+        )
     }
 
     /// The value of the next field, whether the field is reserved, and what is left after it.

@@ -1,13 +1,14 @@
 //! Lent arguments, built with memory of their own: of octets that were checked, so that it fails for memory alone.
-ghost use Rattle.std.specs.Prelude.{◌≡◌, ◌+◌, ◌<◌, ◌≤◌, ◌++◌, ◌∷◌, [], length, map, drop, vec_len, vec_capacity, IfOk, IsTrue, OnOk};
+ghost use Rattle.std.specs.Prelude.{◌≡◌, ◌+◌, ◌<◌, ◌≤◌, ◌++◌, ◌∷◌, [], length, map, drop, vec_len, vec_capacity, false, IfOk, OnOk};
 ghost use Rattle.amqp_method.specs.ArgRefView.{arg_ref_view};
 ghost use Rattle.amqp_method.specs.Arguments.{keep as keeping, short_string};
 ghost use Rattle.amqp_method.specs.MethodRefs.{args_left, AddsFirst};
 ghost use Rattle.amqp_method.specs.KnownFields.{BeginsWith};
 ghost use Rattle.amqp_method.specs.Kinds.{fields_of};
-ghost use Rattle.amqp_method.specs.Owning.{BeginsText, IsShort};
+ghost use Rattle.amqp_method.specs.Owning.{IsShort};
 ghost use Rattle.amqp_method.specs.Rows.{field_view};
 ghost use Rattle.amqp_method.specs.Views.{args_view};
+ghost use Rattle.amqp_method.specs.declared.fields.FieldKind.TheVariants as kinds;
 ghost use Rattle.amqp_method.specs.declared.kinds.Kind.TheVariants.{BasicPublish, BasicDeliver, BasicAck};
 
 use crate::arg_ref::ArgRef;
@@ -70,45 +71,6 @@ fn keep_owned(args: &mut Vec<Arg>, reserved: bool, arg: ArgRef<'_>) -> Result<()
     Ok(())
 }
 
-/// The same where there is room for it, of an argument that was read of these octets.
-///
-/// A short string is built of them, which go on after it: so a short one is copied by whole words.
-#[inline(always)]
-fn put_owned(
-    args: &mut Vec<Arg>,
-    reserved: bool,
-    arg: ArgRef<'_>,
-    octets: &[u8],
-) -> Result<(), OutOfMemory>
-    requires text { BeginsText octets.now (arg_ref_view arg) }
-    requires short { IsShort (arg_ref_view arg) }
-    requires room { vec_len args.old < vec_capacity args.old }
-    ensures added { OnOk result (args_view args.new.items
-        ≡ args_view args.old.items ++ keeping reserved (arg_ref_view arg.entry) []) }
-    ensures len { vec_len args.new ≤ vec_len args.old + 1 }
-    ensures skips { IsTrue reserved → vec_len args.new ≡ vec_len args.old }
-    ensures capacity { vec_capacity args.new ≡ vec_capacity args.old }
-{
-    if reserved {
-        return Ok(());
-    }
-    let alloc = *args.allocator();
-    match arg {
-        ArgRef::Bit(holds) => args.push_reserved(Arg::Bit(holds)),
-        ArgRef::Octet(number) => args.push_reserved(Arg::Octet(number)),
-        ArgRef::Short(number) => args.push_reserved(Arg::Short(number)),
-        ArgRef::Long(number) => args.push_reserved(Arg::Long(number)),
-        ArgRef::LongLong(number) => args.push_reserved(Arg::LongLong(number)),
-        ArgRef::ShortStr(text) => {
-            let text = ShortStr::prefix(alloc, &octets[1..], text.len())?;
-            args.push_reserved(Arg::ShortStr(text));
-        }
-        ArgRef::LongStr(text) => args.push_reserved(Arg::LongStr(Vec::from_slice(alloc, text)?)),
-        ArgRef::Table(table) => args.push_reserved(Arg::Table(table.to_owned(alloc)?)),
-    }
-    Ok(())
-}
-
 impl<'a> ArgsRef<'a> {
     /// Builds the value of the first field, which is of this kind, and adds it, unless the field is reserved. The
     /// answer is what is left after it.
@@ -157,31 +119,55 @@ impl<'a> ArgsRef<'a> {
         }
     }
 
-    /// Builds the value of the first field, of which the kind is known where this is called, and whether it is
-    /// reserved. There is room for it. The answer is what is left after it.
+    /// Builds the short string that stands first, for which there is room, and adds it. The answer is what is left after
+    /// it.
+    ///
+    /// It is built of its octets and those that go on after it: so a short one is copied by whole words.
     #[inline(always)]
-    fn own_known(
-        self,
-        kind: FieldKind,
-        reserved: bool,
-        args: &mut Vec<Arg>,
-    ) -> Result<ArgsRef<'a>, OutOfMemory>
-        requires first { BeginsWith kind reserved (map field_view self.fields.now) }
+    fn own_known_text(self, args: &mut Vec<Arg>) -> Result<ArgsRef<'a>, OutOfMemory>
+        requires first { BeginsWith kinds.ShortStr false (map field_view self.fields.now) }
         requires room { vec_len args.old < vec_capacity args.old }
         ensures added { IfOk result (λ after.
             args_view args.new.items ++ args_left after ≡ args_view args.old.items ++ args_left self.entry) }
         ensures left { IfOk result (λ after.
             map field_view after.fields.now ≡ drop 1 (map field_view self.entry.fields.now)) }
         ensures len { vec_len args.new ≤ vec_len args.old + 1 }
-        ensures skips { IsTrue reserved → vec_len args.new ≡ vec_len args.old }
         ensures capacity { vec_capacity args.new ≡ vec_capacity args.old }
     {
-        let Some((field, fields)) = self.fields.split_first() else {
-            unreachable!()
-        };
-        let (arg, after) = self.first_value(kind, field, fields);
-        put_owned(args, reserved, arg, self.octets)?;
+        let (text, after) = self.first_text();
+        let text = ShortStr::prefix(*args.allocator(), &self.octets[1..], text.len())?;
+        args.push_reserved(Arg::ShortStr(text));
         Ok(after)
+    }
+
+    /// Adds the bit that stands first, for which there is room. The answer is what is left after it.
+    #[inline(always)]
+    fn own_known_bit(self, args: &mut Vec<Arg>) -> ArgsRef<'a>
+        requires first { BeginsWith kinds.Bit false (map field_view self.fields.now) }
+        requires room { vec_len args.old < vec_capacity args.old }
+        ensures added { args_view args.new.items ++ args_left result ≡ args_view args.old.items ++ args_left self.entry }
+        ensures left { map field_view result.fields.now ≡ drop 1 (map field_view self.entry.fields.now) }
+        ensures len { vec_len args.new ≤ vec_len args.old + 1 }
+        ensures capacity { vec_capacity args.new ≡ vec_capacity args.old }
+    {
+        let (holds, after) = self.first_bit();
+        args.push_reserved(Arg::Bit(holds));
+        after
+    }
+
+    /// Adds the number of 64 bits that stands first, for which there is room. The answer is what is left after it.
+    #[inline(always)]
+    fn own_known_long_long(self, args: &mut Vec<Arg>) -> ArgsRef<'a>
+        requires first { BeginsWith kinds.LongLong false (map field_view self.fields.now) }
+        requires room { vec_len args.old < vec_capacity args.old }
+        ensures added { args_view args.new.items ++ args_left result ≡ args_view args.old.items ++ args_left self.entry }
+        ensures left { map field_view result.fields.now ≡ drop 1 (map field_view self.entry.fields.now) }
+        ensures len { vec_len args.new ≤ vec_len args.old + 1 }
+        ensures capacity { vec_capacity args.new ≡ vec_capacity args.old }
+    {
+        let (number, after) = self.first_long_long();
+        args.push_reserved(Arg::LongLong(number));
+        after
     }
 
     /// Builds the arguments of a basic.ack.
@@ -191,8 +177,8 @@ impl<'a> ArgsRef<'a> {
         ensures { IfOk result (λ args. args_view args.items ≡ args_left self.entry) }
     {
         let mut args = Vec::with_capacity(alloc, 2)?;
-        let left = self.own_known(FieldKind::LongLong, false, &mut args)?;
-        let _ = left.own_known(FieldKind::Bit, false, &mut args)?;
+        let left = self.own_known_long_long(&mut args);
+        let _ = left.own_known_bit(&mut args);
         Ok(args)
     }
 
@@ -203,11 +189,11 @@ impl<'a> ArgsRef<'a> {
         ensures { IfOk result (λ args. args_view args.items ≡ args_left self.entry) }
     {
         let mut args = Vec::with_capacity(alloc, 4)?;
-        let left = self.own_known(FieldKind::Short, true, &mut args)?;
-        let left = left.own_known(FieldKind::ShortStr, false, &mut args)?;
-        let left = left.own_known(FieldKind::ShortStr, false, &mut args)?;
-        let left = left.own_known(FieldKind::Bit, false, &mut args)?;
-        let _ = left.own_known(FieldKind::Bit, false, &mut args)?;
+        let left = self.past_short();
+        let left = left.own_known_text(&mut args)?;
+        let left = left.own_known_text(&mut args)?;
+        let left = left.own_known_bit(&mut args);
+        let _ = left.own_known_bit(&mut args);
         Ok(args)
     }
 
@@ -218,11 +204,11 @@ impl<'a> ArgsRef<'a> {
         ensures { IfOk result (λ args. args_view args.items ≡ args_left self.entry) }
     {
         let mut args = Vec::with_capacity(alloc, 5)?;
-        let left = self.own_known(FieldKind::ShortStr, false, &mut args)?;
-        let left = left.own_known(FieldKind::LongLong, false, &mut args)?;
-        let left = left.own_known(FieldKind::Bit, false, &mut args)?;
-        let left = left.own_known(FieldKind::ShortStr, false, &mut args)?;
-        let _ = left.own_known(FieldKind::ShortStr, false, &mut args)?;
+        let left = self.own_known_text(&mut args)?;
+        let left = left.own_known_long_long(&mut args);
+        let left = left.own_known_bit(&mut args);
+        let left = left.own_known_text(&mut args)?;
+        let _ = left.own_known_text(&mut args)?;
         Ok(args)
     }
 
