@@ -1,16 +1,16 @@
 -- Arguments that are built for fields that are known.
 use Rattle.std.proofs.Common.{◌≡◌, ℕ, List, [], ◌∷◌, ◌++◌, length, map, drop, Bool, Ok, Err, refl, ap, subst, sym, ◌∙◌, arith}
 use Rattle.std.specs.Prelude.{IsOk}
-use Rattle.amqp_method.specs.Arguments.{Argument, short, long_long, short_string}
+use Rattle.amqp_method.specs.Arguments.{Argument, octet, table, short, long_long, short_string}
 use Rattle.amqp_method.specs.KnownFields.{BeginsWith}
 use Rattle.amqp_method.specs.MethodRefs.{values_read}
 use Rattle.amqp_method.specs.Methods.{FieldRow}
-use Rattle.amqp_method.specs.Reading.{Bits, read_bit, read_number, short_string_at, ends_run, field_at, args_at}
+use Rattle.amqp_method.specs.Reading.{Bits, field_table_at, read_bit, read_number, short_string_at, ends_run, field_at, args_at}
 use Rattle.amqp_method.specs.Rows.{field_view}
 use Rattle.amqp_method.specs.declared.faults.MethodFault.{MethodFault}
 use Rattle.amqp_method.specs.declared.fields.Field.{Field}
 use Rattle.amqp_method.specs.declared.fields.FieldKind.{FieldKind}
-use Rattle.amqp_method.specs.declared.fields.FieldKind.TheVariants.{Bit, Short, LongLong, ShortStr}
+use Rattle.amqp_method.specs.declared.fields.FieldKind.TheVariants.{Bit, Octet, Table, Short, LongLong, ShortStr}
 use Rattle.amqp_method.proofs.OwningLemmas.{all_built}
 use Rattle.amqp_method.proofs.RefLemmas.{no_values, first_value, no_fault, Others}
 
@@ -51,6 +51,14 @@ known_fits kind reserved fields f others bits end octets e is first ok read =
 pub short_field : (bits : Bits) (end : ℕ) (octets : List ℕ) → field_at Short bits end octets ≡ ends_run short (read_number 2 end octets)
 unfolding field_at
 short_field bits end octets = refl
+
+pub octet_field : (bits : Bits) (end : ℕ) (octets : List ℕ) → field_at Octet bits end octets ≡ ends_run octet (read_number 1 end octets)
+unfolding field_at
+octet_field bits end octets = refl
+
+pub table_field : (bits : Bits) (end : ℕ) (octets : List ℕ) → field_at Table bits end octets ≡ ends_run table (field_table_at end octets)
+unfolding field_at
+table_field bits end octets = refl
 
 pub long_long_field : (bits : Bits) (end : ℕ) (octets : List ℕ) → field_at LongLong bits end octets ≡ ends_run long_long (read_number 8 end octets)
 unfolding field_at

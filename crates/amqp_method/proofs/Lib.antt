@@ -1,4 +1,5 @@
 pub mod ArgsLemmas
+pub mod BegunLemmas
 pub mod CheckLemmas
 pub mod CommonKinds
 pub mod CommonProperties

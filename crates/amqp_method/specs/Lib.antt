@@ -30,6 +30,8 @@ pub mod GatheredView
 pub mod Lent
 pub mod MaybeBoxed
 pub mod CarrierView
+pub mod Blank
+pub mod BegunView
 pub mod Messages
 pub mod MessageView
 pub mod Fitting

@@ -34,7 +34,7 @@ pub enum ArgRef<'a> {
 
 /// A field table that was checked before, and the octets after it.
 #[inline(always)]
-fn read_table<'a>(octets: &'a [u8]) -> (TableRef<'a>, &'a [u8])
+pub(crate) fn read_table<'a>(octets: &'a [u8]) -> (TableRef<'a>, &'a [u8])
     requires { BeginsTable octets.now }
     ensures read { (end : ℕ) → field_table_at end octets.now ≡ Ok (table_ref_view result.0, result.1.now) }
     ensures within { length result.1.now ≤ length octets.now }

@@ -72,6 +72,9 @@ impl Content {
     ghost use Rattle.amqp_method.specs.MessageView.{message_view};
 
     /// A content of which the method alone is there: no property, and no octet of a body.
+    ///
+    /// It is put together where it is called, so that what is known of the method there goes right into the box.
+    #[inline(always)]
     pub fn begun(alloc: Global, method: Carrier) -> Result<Box<Content>, OutOfMemory>
         ensures method { IfOk result (λ content. carrier_view content.value.method ≡ carrier_view method) }
         ensures blank { IfOk result (λ content. IsBlank content.value) }

@@ -17,7 +17,7 @@ use amqp_value::TableRef;
 /// properties.
 #[derive(Clone, Copy)]
 pub struct HeaderRef<'a> {
-    payload: &'a [u8],
+    pub(crate) payload: &'a [u8],
     pub(crate) flags: u16,
     body_size: u64,
     ghost below: { AreBelow256 payload.now },
@@ -26,13 +26,11 @@ pub struct HeaderRef<'a> {
 }
 
 impl<'a> HeaderRef<'a> {
-    ghost use Rattle.std.specs.Prelude.{◌≡◌, ◌<◌, ℕ, IfOk, IfErr, IfSome, Ok, Some, None, MatchOption};
+    ghost use Rattle.std.specs.Prelude.{◌≡◌, ◌<◌, ℕ, IfOk, IfErr, Ok, Some, None, MatchOption};
     ghost use Rattle.amqp_method.specs.FirstFault.{FirstFaultOfHeader};
-    ghost use Rattle.amqp_method.specs.HeaderChecking.{kind_at};
     ghost use Rattle.amqp_method.specs.HeaderRefs.{PropertiesLeft, ReadsProperty};
     ghost use Rattle.amqp_method.specs.ArgRefView.{arg_ref_view};
     ghost use Rattle.amqp_method.specs.HeaderRefView.{lent_header, lent_header_payload, property_at as at_place, property_ref_view};
-    ghost use Rattle.amqp_method.specs.Owning.{IsValueOf};
     ghost use Rattle.amqp_method.specs.Places.{found, octet_of, long_long_of, short_string_of, table_of};
     ghost use Rattle.amqp_method.specs.Properties.{ContentHeader, EncodesHeader, flags_of};
     ghost use Rattle.amqp_method.specs.Reading.{Equals};
@@ -95,8 +93,7 @@ impl<'a> HeaderRef<'a> {
     ) -> (Option<ArgRef<'a>>, &'a [u8])
         requires place { place < 14 }
         requires left { PropertiesLeft self place octets.now }
-        ensures read { ReadsProperty self.entry place (property_ref_view result.0) result.1.now }
-        ensures value { IfSome result.0 (λ value. IsValueOf (kind_at place) (arg_ref_view value)) }
+        ensures { ReadsProperty self.entry place (property_ref_view result.0) result.1.now }
     {
         let property = property_at(place);
         if !property.is_flagged(self.flags) {

@@ -57,7 +57,7 @@ fn copy_table(table: &Option<Table>) -> Result<Option<Table>, OutOfMemory>
 
 /// Most properties are not there, and to look is less than to write.
 #[inline(always)]
-pub(crate) fn clear_place<T: Drop>(place: &mut Option<T>)
+fn clear_place<T: Drop>(place: &mut Option<T>)
     ensures { place.new ≡ None }
 {
     if place.is_some() {
@@ -103,7 +103,7 @@ impl Properties {
     }
 
     #[inline(always)]
-    pub(crate) fn later_are_none(&self) -> bool
+    fn later_are_none(&self) -> bool
         ensures { IsTrue result ↔ (later_view self.now ≡ replicate 9 None) }
     {
         self.middle_are_none() && self.last_are_none()

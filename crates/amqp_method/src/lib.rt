@@ -17,6 +17,7 @@
 
 mod arg_ref;
 mod args_ref;
+mod begun;
 mod bit_run;
 mod checker;
 mod contents;
@@ -55,6 +56,7 @@ mod writing;
 
 pub use crate::arg_ref::ArgRef;
 pub use crate::args_ref::ArgsRef;
+pub use crate::begun::Begun;
 pub use crate::checker::check_method;
 pub use crate::contents::{Carrier, Content};
 pub use crate::faults::{MethodFault, MethodFaultKind, OutOfMemory};

@@ -99,7 +99,7 @@ impl<'a> MethodRef<'a> {
 
     /// The same, and for which fields they are.
     #[inline(always)]
-    fn lent_args(self) -> ArgsRef<'a>
+    pub(crate) fn lent_args(self) -> ArgsRef<'a>
         ensures args { args_left result ≡ (lent_call self.entry).args }
         ensures fit { Fits (lent_call self.entry) }
         ensures fields { map field_view result.fields.now ≡ fields_of self.entry.kind }

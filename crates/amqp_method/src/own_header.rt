@@ -1,91 +1,52 @@
 //! A lent content header, built with memory of its own: of octets that were checked, so that it fails for memory alone.
-ghost use Rattle.std.specs.Prelude.{◌≡◌, ◌≤◌, ◌<◌, length, drop, IfOk, IfSome, OnOk, Some};
-ghost use Rattle.amqp_method.specs.ArgRefView.{arg_ref_view};
-ghost use Rattle.amqp_method.specs.Arguments.{octet, long_long, short_string};
+ghost use Rattle.std.specs.Prelude.{◌≡◌, ◌≤◌, ◌<◌, length, drop, replicate, IfOk, OnOk, None, Some};
+ghost use Rattle.amqp_value.specs.Lent.{table_ref_view};
+ghost use Rattle.amqp_method.specs.Arguments.{octet, long_long, short_string, table as table_of};
 ghost use Rattle.amqp_method.specs.HeaderChecking.{kind_at};
 ghost use Rattle.amqp_method.specs.HeaderParts.{earlier_view, later_view};
 ghost use Rattle.amqp_method.specs.HeaderRefs.{PropertiesLeft, ReadsProperty};
-ghost use Rattle.amqp_method.specs.HeaderRefView.{lent_header, property_ref_view};
+ghost use Rattle.amqp_method.specs.HeaderRefView.{lent_header};
 ghost use Rattle.amqp_method.specs.HeaderView.{present, table_argument, properties_view, header_view};
-ghost use Rattle.amqp_method.specs.Owning.{IsValueOf};
 ghost use Rattle.amqp_method.specs.declared.fields.FieldKind.TheVariants as kinds;
 
-use crate::arg_ref::ArgRef;
+use crate::arg_ref::read_table;
 use crate::faults::OutOfMemory;
+use crate::field_octets::{read_long_long, read_octet, read_short_octets};
 use crate::header_checker::LATER_FLAGS;
 use crate::header_ref::HeaderRef;
-use crate::headers::{Header, Properties, clear_place};
+use crate::headers::{Header, Properties};
 use crate::own::own_short_string;
-use amqp_value::{ShortStr, Table};
+use crate::properties::property_at;
+use amqp_value::{ShortStr, Table, TableRef};
 use std::alloc::Global;
+use std::mem::{forget, replace};
 
-/// A short string of these octets, in its place. It stands apart, since most properties are not there.
+/// A short string of these octets, in a place where none is. It stands apart, since most properties are not there.
 #[inline(never)]
 fn put_text(alloc: Global, text: &[u8], property: &mut Option<ShortStr>) -> Result<(), OutOfMemory>
     requires { length text.now ≤ 255 }
     ensures { OnOk result (present short_string property.new ≡ Some (short_string text.now)) }
 {
-    *property = Some(own_short_string(alloc, text)?);
+    let text = own_short_string(alloc, text)?;
+    forget(replace(property, Some(text)));
     Ok(())
 }
 
-/// A property of one kind, or none, where it is kept.
-#[inline(always)]
-fn own_text(
+/// A table, in a place where none is.
+fn put_table(
     alloc: Global,
-    value: Option<ArgRef<'_>>,
-    property: &mut Option<ShortStr>,
-) -> Result<(), OutOfMemory>
-    requires { IfSome value (λ value. IsValueOf kinds.ShortStr (arg_ref_view value)) }
-    ensures { OnOk result (present short_string property.new ≡ property_ref_view value.entry) }
-{
-    let Some(value) = value else {
-        clear_place(property);
-        return Ok(());
-    };
-    let Some(text) = value.as_short_str() else {
-        unreachable!()
-    };
-    put_text(alloc, text, property)
-}
-
-fn own_table(
-    alloc: Global,
-    value: Option<ArgRef<'_>>,
+    table: TableRef<'_>,
     property: &mut Option<Table>,
 ) -> Result<(), OutOfMemory>
-    requires { IfSome value (λ value. IsValueOf kinds.Table (arg_ref_view value)) }
-    ensures { OnOk result (present table_argument property.new ≡ property_ref_view value.entry) }
+    ensures { OnOk result (present table_argument property.new ≡ Some (table_of (table_ref_view table.entry))) }
 {
-    let Some(value) = value else {
-        clear_place(property);
-        return Ok(());
-    };
-    let Some(table) = value.as_table() else {
-        unreachable!()
-    };
-    *property = Some(table.to_owned(alloc)?);
+    let table = table.to_owned(alloc)?;
+    forget(replace(property, Some(table)));
     Ok(())
 }
 
-#[inline(always)]
-fn octet_in(value: Option<ArgRef<'_>>) -> Option<u8>
-    requires { IfSome value (λ value. IsValueOf kinds.Octet (arg_ref_view value)) }
-    ensures { present octet result ≡ property_ref_view value.entry }
-{
-    value?.as_octet()
-}
-
-#[inline(always)]
-fn long_long_in(value: Option<ArgRef<'_>>) -> Option<u64>
-    requires { IfSome value (λ value. IsValueOf kinds.LongLong (arg_ref_view value)) }
-    ensures { present long_long result ≡ property_ref_view value.entry }
-{
-    value?.as_long_long()
-}
-
-/// Each builds the property at a place, whose octets are the first, where it is kept. The answer is the octets after
-/// it.
+/// Each builds the property at a place, whose octets are the first, where it is kept, if its flag is set. None was
+/// there before. The answer is the octets after it.
 impl<'a> HeaderRef<'a> {
     #[inline(always)]
     fn text(
@@ -98,10 +59,16 @@ impl<'a> HeaderRef<'a> {
         requires place { place < 14 }
         requires kind { kind_at place ≡ kinds.ShortStr }
         requires left { PropertiesLeft self place octets.now }
+        requires blank { present short_string property.old ≡ None }
         ensures { IfOk result (λ after. ReadsProperty self.entry place (present short_string property.new) after.now) }
     {
-        let (value, after) = self.next_property(place, octets);
-        own_text(alloc, value, property)?;
+        if !property_at(place).is_flagged(self.flags) {
+            return Ok(octets);
+        }
+        let Ok((text, after)) = read_short_octets(octets, self.payload.len()) else {
+            unreachable!()
+        };
+        put_text(alloc, text, property)?;
         Ok(after)
     }
 
@@ -116,11 +83,15 @@ impl<'a> HeaderRef<'a> {
         requires place { place < 14 }
         requires kind { kind_at place ≡ kinds.Table }
         requires left { PropertiesLeft self place octets.now }
+        requires blank { present table_argument property.old ≡ None }
         ensures { IfOk result (λ after.
             ReadsProperty self.entry place (present table_argument property.new) after.now) }
     {
-        let (value, after) = self.next_property(place, octets);
-        own_table(alloc, value, property)?;
+        if !property_at(place).is_flagged(self.flags) {
+            return Ok(octets);
+        }
+        let (table, after) = read_table(octets);
+        put_table(alloc, table, property)?;
         Ok(after)
     }
 
@@ -129,10 +100,16 @@ impl<'a> HeaderRef<'a> {
         requires place { place < 14 }
         requires kind { kind_at place ≡ kinds.Octet }
         requires left { PropertiesLeft self place octets.now }
+        requires blank { present octet property.old ≡ None }
         ensures { ReadsProperty self.entry place (present octet property.new) result.now }
     {
-        let (value, after) = self.next_property(place, octets);
-        *property = octet_in(value);
+        if !property_at(place).is_flagged(self.flags) {
+            return octets;
+        }
+        let Ok((number, after)) = read_octet(octets, self.payload.len()) else {
+            unreachable!()
+        };
+        *property = Some(number);
         after
     }
 
@@ -141,20 +118,31 @@ impl<'a> HeaderRef<'a> {
         requires place { place < 14 }
         requires kind { kind_at place ≡ kinds.LongLong }
         requires left { PropertiesLeft self place octets.now }
+        requires blank { present long_long property.old ≡ None }
         ensures { ReadsProperty self.entry place (present long_long property.new) result.now }
     {
-        let (value, after) = self.next_property(place, octets);
-        *property = long_long_in(value);
+        if !property_at(place).is_flagged(self.flags) {
+            return octets;
+        }
+        let Ok((number, after)) = read_long_long(octets, self.payload.len()) else {
+            unreachable!()
+        };
+        *property = Some(number);
         after
     }
 }
 
 impl<'a> HeaderRef<'a> {
-    /// All properties. Many headers have none, and where there were none before, none has to be written.
-    fn own_properties(self, alloc: Global, properties: &mut Properties) -> Result<(), OutOfMemory>
+    /// All properties, where there were none before. Many headers have none.
+    pub(crate) fn own_properties(
+        self,
+        alloc: Global,
+        properties: &mut Properties,
+    ) -> Result<(), OutOfMemory>
+        requires { properties_view properties.old ≡ replicate 14 None }
         ensures { OnOk result (properties_view properties.new ≡ (lent_header self.entry).properties) }
     {
-        if self.flags == 0 && properties.is_empty() {
+        if self.flags == 0 {
             return Ok(());
         }
         let octets = self.properties();
@@ -173,11 +161,12 @@ impl<'a> HeaderRef<'a> {
         octets: &'a [u8],
         properties: &mut Properties,
     ) -> Result<(), OutOfMemory>
-        requires { PropertiesLeft self 5 octets.now }
+        requires left { PropertiesLeft self 5 octets.now }
+        requires blank { later_view properties.old ≡ replicate 9 None }
         ensures later { OnOk result (drop 5 (lent_header self.entry).properties ≡ later_view properties.new) }
         ensures kept { earlier_view properties.new ≡ earlier_view properties.old }
     {
-        if self.flags % LATER_FLAGS == 0 && properties.later_are_none() {
+        if self.flags % LATER_FLAGS == 0 {
             return Ok(());
         }
         let octets = self.text(alloc, 5, octets, &mut properties.correlation_id)?;
@@ -200,6 +189,9 @@ impl<'a> HeaderRef<'a> {
         ensures { OnOk result (header_view header.new ≡ lent_header self.entry) }
     {
         header.body_size = self.body_size();
+        if !header.properties.is_empty() {
+            header.properties.clear();
+        }
         self.own_properties(alloc, &mut header.properties)
     }
 

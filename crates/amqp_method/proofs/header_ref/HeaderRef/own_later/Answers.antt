@@ -4,9 +4,8 @@ use Rattle.amqp_method.specs.HeaderRefView.{properties_read}
 use Rattle.amqp_method.proofs.HeaderRefs.{none_later, none_after, later_in_order}
 use Rattle.amqp_method.proofs.header_ref.HeaderRef.own_later.Goals as goal
 
-pub returns-then-later_are_none-clause-later : goal.returns-then-later_are_none-clause-later
-returns-then-later_are_none-clause-later c =
-    none_later c.args.self c.args.octets.now c.requires c.if-self-eq0.true ∙ sym (c.later_are_none.ensures.0 c.if-later_are_none.true)
+pub returns-then-self-eq0-clause-later : goal.returns-then-self-eq0-clause-later
+returns-then-self-eq0-clause-later c = none_later c.args.self c.args.octets.now c.requires.left c.if-self-eq0.true ∙ sym c.requires.blank
 
 pub returns-clause-later : goal.returns-clause-later
 returns-clause-later c =

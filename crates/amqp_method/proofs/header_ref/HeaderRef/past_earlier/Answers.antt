@@ -13,4 +13,4 @@ next_property-requires-2-clause-left c =
 pub returns : goal.returns
 returns c =
     match_property c.next_property-2.result.0 _
-    (first_of c.args.place (properties_read (header_at c.args.self.payload.now)) (property_ref_view c.next_property-2.result.0) c.next_property-2.ensures.read.is)
+    (first_of c.args.place (properties_read (header_at c.args.self.payload.now)) (property_ref_view c.next_property-2.result.0) c.next_property-2.ensures.is)
