@@ -131,6 +131,7 @@ impl Properties {
     }
 
     /// Takes each away.
+    #[inline(always)]
     pub fn clear(&mut self)
         ensures { properties_view self.new ≡ replicate 14 None }
     {

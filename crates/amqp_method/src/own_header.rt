@@ -32,7 +32,7 @@ fn put_text(alloc: Global, text: &[u8], property: &mut Option<ShortStr>) -> Resu
     Ok(())
 }
 
-/// A table, in a place where none is.
+/// A table, in a place where none is. It is built there.
 fn put_table(
     alloc: Global,
     table: TableRef<'_>,
@@ -40,8 +40,11 @@ fn put_table(
 ) -> Result<(), OutOfMemory>
     ensures { OnOk result (present table_argument property.new ≡ Some (table_of (table_ref_view table.entry))) }
 {
-    let table = table.to_owned(alloc)?;
-    forget(replace(property, Some(table)));
+    forget(replace(property, Some(Table::new(alloc))));
+    let Some(place) = property else {
+        unreachable!()
+    };
+    table.read_into(alloc, place)?;
     Ok(())
 }
 
