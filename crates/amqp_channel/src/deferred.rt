@@ -2,7 +2,8 @@
 //!
 //! A table takes up to 40 times its octets in memory, and a peer may begin a content on each channel and leave it there. So of a
 //! long header with a table the octets are kept, and read when the body is whole.
-ghost use Rattle.std.specs.Prelude.{◌≡◌, ◌++◌, ◌+◌, length, IfOk, IfErr, IfSome, OnOk, OnErr};
+ghost use Rattle.std.specs.Prelude.{◌≡◌, ◌++◌, ◌+◌, [], length, IfOk, IfErr, IfSome, OnOk, OnErr};
+ghost use Rattle.amqp_method.specs.BegunView.{begun_view};
 ghost use Rattle.amqp_method.specs.CarrierView.{carrier_view};
 ghost use Rattle.amqp_method.specs.HeaderRefView.{lent_header};
 ghost use Rattle.amqp_method.specs.HeaderView.{properties_view};
@@ -13,7 +14,7 @@ ghost use Rattle.amqp_channel.specs.Contents.DeferredView.{properties_of, IsHead
 ghost use Rattle.amqp_channel.specs.ReadingView.{length_said};
 
 use crate::read::read_content_header;
-use amqp_method::{Content, HeaderRef, OutOfMemory};
+use amqp_method::{Begun, Content, HeaderRef, OutOfMemory};
 use amqp_model::bounds::headers_have_one_length;
 use std::alloc::Global;
 
@@ -46,37 +47,36 @@ pub(crate) fn length_if_read(header: HeaderRef<'_>) -> Option<u32>
 }
 
 impl Deferred {
-    /// Keeps the octets of a header. Out of memory, the content is given back.
+    /// Keeps the octets of the header of a content that is begun. Out of memory, that is given back.
     #[tactic(auto, unfolding(amqp_model::specs::Wire::Methods::header_at), using(crate::proofs::HeaderLemmas::length_measured))]
     pub(crate) fn new(
         alloc: Global,
         header: HeaderRef<'_>,
-        content: Box<Content>,
-    ) -> Result<Box<Deferred>, Box<Content>>
+        begun: Begun,
+    ) -> Result<Box<Deferred>, Begun>
         ensures properties { IfOk result (λ d. properties_of d.value.header.items
             ≡ (lent_header header.entry).properties) }
         ensures size { IfOk result (λ d. d.value.size ≡ (lent_header header.entry).body_size) }
         ensures length { IfOk result (λ d. length d.value.header.items ≡ length_said header.entry) }
-        ensures method { IfOk result (λ d. carrier_view d.value.content.value.method
-            ≡ carrier_view content.value.method) }
-        ensures body { IfOk result (λ d. d.value.content.value.body.items ≡ content.value.body.items) }
-        ensures back { IfErr result (λ c. carrier_view c.value.method ≡ carrier_view content.value.method) }
+        ensures method { IfOk result (λ d. carrier_view d.value.content.value.method ≡ begun_view begun) }
+        ensures body { IfOk result (λ d. d.value.content.value.body.items ≡ []) }
+        ensures back { IfErr result (λ back. begun_view back ≡ begun_view begun) }
     {
         headers_have_one_length();
         let size = header.body_size();
         let Ok(header) = Vec::from_slice(alloc, header.payload()) else {
-            return Err(content);
+            return Err(begun);
         };
         match Box::new(
             alloc,
             Deferred {
-                content,
+                content: begun.into_content(),
                 size,
                 header,
             },
         ) {
             Ok(deferred) => Ok(deferred),
-            Err(refused) => Err(refused.value.content),
+            Err(refused) => Err(Begun::from_blank(refused.value.content)),
         }
     }
 

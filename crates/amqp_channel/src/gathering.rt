@@ -1,6 +1,6 @@
 //! The content under way on a channel.
-ghost use Rattle.std.specs.Prelude.{◌≡◌, ◌<◌, ◌+◌, ◌++◌, [], Some, IfOk, OnOk, OnErr};
-ghost use Rattle.amqp_method.specs.CarrierView.{carrier_view};
+ghost use Rattle.std.specs.Prelude.{◌≡◌, ◌<◌, ◌+◌, ◌++◌, Some, IfOk, OnOk, OnErr};
+ghost use Rattle.amqp_method.specs.BegunView.{begun_view};
 ghost use Rattle.amqp_model.specs.End.FrameVerdict.{is_gathering};
 ghost use Rattle.amqp_model.specs.Wire.Gathering.{Nothing, HeaderDue};
 ghost use Rattle.amqp_model.specs.Wire.Readings.{BodyOf};
@@ -11,7 +11,7 @@ ghost use Rattle.amqp_channel.specs.declared.gathering.Filling.TheVariants.{Shor
 ghost use Rattle.amqp_channel.specs.Verdict.VerdictView.{continued_with, headed_with, whole_at, whole_with, IsHeaderDue, IsWhole};
 
 use crate::deferred::{Deferred, length_if_read};
-use amqp_method::{Content, HeaderRef, OutOfMemory};
+use amqp_method::{Begun, Content, HeaderRef, OutOfMemory};
 use std::alloc::Global;
 use std::mem;
 use std::mem::forget;
@@ -21,7 +21,7 @@ use std::mem::forget;
 pub enum Gathering {
     Nothing,
     /// The method was taken, and the header is due.
-    HeaderDue(Box<Content>),
+    HeaderDue(Begun),
     /// The header was taken too, which has so many octets, and some of the body. The number stands first, where the tag
     /// leaves room for it.
     BodyDue { header: u32, content: Box<Content> },
@@ -186,7 +186,7 @@ impl Gathering {
         ensures kept { OnErr result (header_kept self.new ≡ header_kept self.old) }
     {
         match mem::replace(self, Gathering::Nothing) {
-            Gathering::HeaderDue(content) => self.keep_headed(alloc, header, content),
+            Gathering::HeaderDue(begun) => self.keep_headed(alloc, header, begun),
             Gathering::Nothing | Gathering::BodyDue { .. } | Gathering::Deferred(_) =>
                 unreachable!(),
         }
@@ -207,14 +207,13 @@ impl Gathering {
         ensures kept { OnErr result (header_kept self.new ≡ header_kept self.old) }
     {
         match mem::replace(self, Gathering::Nothing) {
-            Gathering::HeaderDue(mut content) => {
-                if let Err(fault) = header.read_into(alloc, &mut content.header) {
-                    *self = Gathering::HeaderDue(content);
-                    return Err(fault);
+            Gathering::HeaderDue(begun) => match begun.with_header(alloc, header) {
+                Ok(content) => Ok(content),
+                Err(begun) => {
+                    *self = Gathering::HeaderDue(begun);
+                    Err(OutOfMemory)
                 }
-                content.body.clear();
-                Ok(content)
-            }
+            },
             Gathering::Nothing | Gathering::BodyDue { .. } | Gathering::Deferred(_) =>
                 unreachable!(),
         }
@@ -227,30 +226,33 @@ impl Gathering {
         &mut self,
         alloc: Global,
         header: HeaderRef<'_>,
-        mut content: Box<Content>,
+        begun: Begun,
     ) -> Result<(), OutOfMemory>
         ensures ok { OnOk result (gathering_view self.new ≡ headed_with (header_said header.entry)
-            (HeaderDue (carrier_view content.value.method))) }
+            (HeaderDue (begun_view begun))) }
         ensures header { OnOk result (header_kept self.new ≡ length_said header.entry) }
-        ensures err { OnErr result (gathering_view self.new ≡ HeaderDue (carrier_view content.value.method)) }
+        ensures err { OnErr result (gathering_view self.new ≡ HeaderDue (begun_view begun)) }
         ensures kept { OnErr result (header_kept self.new ≡ 0) }
     {
-        content.body.clear();
         let Some(length) = length_if_read(header) else {
-            return self.defer(alloc, header, content);
+            return self.defer(alloc, header, begun);
         };
-        if let Err(fault) = header.read_into(alloc, &mut content.header) {
-            *self = Gathering::HeaderDue(content);
-            return Err(fault);
+        match begun.with_header(alloc, header) {
+            Ok(content) => {
+                forget(mem::replace(
+                    self,
+                    Gathering::BodyDue {
+                        header: length,
+                        content,
+                    },
+                ));
+                Ok(())
+            }
+            Err(begun) => {
+                *self = Gathering::HeaderDue(begun);
+                Err(OutOfMemory)
+            }
         }
-        forget(mem::replace(
-            self,
-            Gathering::BodyDue {
-                header: length,
-                content,
-            },
-        ));
-        Ok(())
     }
 
     /// Keeps a header as its octets.
@@ -258,22 +260,21 @@ impl Gathering {
         &mut self,
         alloc: Global,
         header: HeaderRef<'_>,
-        content: Box<Content>,
+        begun: Begun,
     ) -> Result<(), OutOfMemory>
-        requires { content.value.body.items ≡ [] }
         ensures ok { OnOk result (gathering_view self.new ≡ headed_with (header_said header.entry)
-            (HeaderDue (carrier_view content.value.method))) }
+            (HeaderDue (begun_view begun))) }
         ensures header { OnOk result (header_kept self.new ≡ length_said header.entry) }
-        ensures err { OnErr result (gathering_view self.new ≡ HeaderDue (carrier_view content.value.method)) }
+        ensures err { OnErr result (gathering_view self.new ≡ HeaderDue (begun_view begun)) }
         ensures kept { OnErr result (header_kept self.new ≡ 0) }
     {
-        match Deferred::new(alloc, header, content) {
+        match Deferred::new(alloc, header, begun) {
             Ok(deferred) => {
                 *self = Gathering::Deferred(deferred);
                 Ok(())
             }
-            Err(content) => {
-                *self = Gathering::HeaderDue(content);
+            Err(begun) => {
+                *self = Gathering::HeaderDue(begun);
                 Err(OutOfMemory)
             }
         }

@@ -30,7 +30,7 @@ use crate::site::Site;
 use crate::standing::Standing;
 use crate::verdict::{Reply, Told, Verdict};
 use crate::words::lent_bit_at;
-use amqp_method::{Carrier, Content, HeaderRef, Kind, MethodRef, OutOfMemory};
+use amqp_method::{Begun, Content, HeaderRef, Kind, MethodRef, OutOfMemory};
 use std::alloc::Global;
 use std::mem::{forget, replace};
 
@@ -215,8 +215,8 @@ impl Life {
             (HeaderOf (lent_header header.entry).body_size (lent_header header.entry).properties)) }
     {
         match &self.content {
-            Gathering::HeaderDue(content) => {
-                passes_content(site.side, content.kind(), judge_awaited(site, header))
+            Gathering::HeaderDue(begun) => {
+                passes_content(site.side, begun.kind(), judge_awaited(site, header))
             }
             Gathering::Nothing | Gathering::BodyDue { .. } | Gathering::Deferred(_) => None,
         }
@@ -382,9 +382,9 @@ impl Life {
             Told.Begun (life_view self.old)) }
         ensures err { OnErr result (life_view self.new ≡ life_view self.old) }
     {
-        let content = Content::begun(alloc, Carrier::new(method.to_owned(alloc)?))?;
+        let begun = Begun::new(alloc, method)?;
         self.keep_asked(alloc, side, method)?;
-        self.content = Gathering::HeaderDue(content);
+        self.content = Gathering::HeaderDue(begun);
         Ok(())
     }
 
@@ -402,8 +402,8 @@ impl Life {
             (HeaderDue (lent_call method.entry))) }
         ensures err { OnErr result (life_view self.new ≡ life_view self.old) }
     {
-        let content = Content::begun(alloc, Carrier::new(method.to_owned(alloc)?))?;
-        forget(replace(&mut self.content, Gathering::HeaderDue(content)));
+        let begun = Begun::new(alloc, method)?;
+        forget(replace(&mut self.content, Gathering::HeaderDue(begun)));
         Ok(())
     }
 
@@ -512,7 +512,7 @@ impl Life {
     {
         match &self.content {
             Gathering::Nothing => false,
-            Gathering::HeaderDue(content) => content.kind().is_reply(),
+            Gathering::HeaderDue(begun) => begun.kind().is_reply(),
             Gathering::BodyDue { content, .. } => content.kind().is_reply(),
             Gathering::Deferred(deferred) => deferred.content.kind().is_reply(),
         }

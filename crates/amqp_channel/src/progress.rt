@@ -76,7 +76,7 @@ impl Gathering {
     {
         match self {
             Gathering::Nothing => Progress::NoContent,
-            Gathering::HeaderDue(content) => Progress::AwaitsHeader(content.kind()),
+            Gathering::HeaderDue(begun) => Progress::AwaitsHeader(begun.kind()),
             Gathering::BodyDue { content, .. } => Progress::AwaitsBody {
                 kind: content.kind(),
                 size: content.header.body_size,

@@ -3,6 +3,7 @@
 -- `DeferredView`, and the model's `Wire.Gathering` and `Lent.Streaming`.
 use Rattle.std.specs.Global.{Global}
 use Rattle.std.specs.Prelude.{◌≡◌, ℕ, ◌==◌, nat_lt, cond, length, Box}
+use Rattle.amqp_method.specs.BegunView.{begun_view}
 use Rattle.amqp_method.specs.CarrierView.{carrier_view}
 use Rattle.amqp_method.specs.declared.contents.Content.{Content}
 use Rattle.amqp_model.specs.Lent.Streaming.{Streaming, NoContent, AwaitsHeader, AwaitsBody}
@@ -19,7 +20,7 @@ use Rattle.amqp_channel.specs.declared.progress.Progress.TheVariants as code
 -- what is kept of a content that is gathered
 abbrev pub gathering_view : Gathering → model.Gathering
 gathering_view Nothing = model.Nothing
-gathering_view (HeaderDue content) = model.HeaderDue (carrier_view content.value.method)
+gathering_view (HeaderDue begun) = model.HeaderDue (begun_view begun)
 gathering_view (BodyDue header content) =
     model.BodyDue (content_view content.value).method content.value.header.body_size
     (content_view content.value).properties (content_view content.value).body
@@ -30,14 +31,14 @@ gathering_view (Deferred deferred) =
 -- how many octets are kept as those of its header
 abbrev pub header_kept : Gathering → ℕ
 header_kept Nothing = 0
-header_kept (HeaderDue content) = 0
+header_kept (HeaderDue begun) = 0
 header_kept (BodyDue header content) = header
 header_kept (Deferred deferred) = length deferred.value.header.items
 
 -- its header was taken, and its body is due
 abbrev pub IsBodyDue : Gathering → Type 0
 IsBodyDue Nothing = ⊥
-IsBodyDue (HeaderDue content) = ⊥
+IsBodyDue (HeaderDue begun) = ⊥
 IsBodyDue (BodyDue header content) = Unit {0}
 IsBodyDue (Deferred deferred) = Unit {0}
 
@@ -49,7 +50,7 @@ IsRead gathering = ⊥
 -- all of this content is kept
 abbrev pub IsKeptIn : Gathering → Box Content Global → Type 0
 IsKeptIn Nothing content = ⊥
-IsKeptIn (HeaderDue kept) content = ⊥
+IsKeptIn (HeaderDue begun) content = ⊥
 IsKeptIn (BodyDue header kept) content = content_view content.value ≡ content_view kept.value
 IsKeptIn (Deferred kept) content = content_view content.value ≡ content_view kept.value.content.value
 

@@ -1,6 +1,7 @@
 -- What is kept of the channel is counted again, and of the others it is as it was.
-use Rattle.std.proofs.Common.{rules, ◌≡◌, ◌≢◌, false, ℕ, suc, ap, ◌∙◌}
+use Rattle.std.proofs.Common.{rules, ◌≡◌, ◌≢◌, false, ℕ, suc, ap, sym, ◌∙◌}
 use Rattle.indexmap.specs.IndexMap.{with_value_at}
+use Rattle.amqp_model.specs.End.Amounts.{body_octets_on}
 use Rattle.amqp_model.specs.End.Asks.{is_free}
 use Rattle.amqp_channel.specs.Channel.ChannelView.{channel_view}
 use Rattle.amqp_channel.specs.Channels.Passed.{IsPassed}
@@ -15,7 +16,9 @@ pub after-self-requires : goal.after-self-requires
 after-self-requires c =
     let self = c.args.self.now in
     is_part self.used self.amounts self.counts_headers self.counts_bodies self.bodies_fit c.args.number c.requires.above (search rules) c.amount-before.result
-    (search rules) (search rules)
+    (search rules)
+    (c.amount-before.ensures.body
+    ∙ ap body_octets_on (sym (now_here self.used c.args.number c.requires.above c.index_mut-channel.result.now (c.requires.kept c.index_mut-channel.result.now (search rules)))))
 
 -- the channel is in use still
 taken : (c : goal.After-after-self) → is_free (channel_view c.advance.new.self) ≡ false
@@ -45,7 +48,9 @@ invariant_of-self-clause-counts_headers c =
     let channel = c.advance.new.self in
     let used = with_value_at self.used c.args.place channel in
     headers_written self.used used self.amounts c.after-self.result self.counts_headers self.counts_bodies self.bodies_fit c.args.number c.requires.above
-    (search rules) c.amount-before.result c.amount-left.result channel (search rules) (search rules)
+    (search rules) c.amount-before.result c.amount-left.result channel (search rules)
+    (c.amount-before.ensures.body
+    ∙ ap body_octets_on (sym (now_here self.used c.args.number c.requires.above c.index_mut-channel.result.now (c.requires.kept c.index_mut-channel.result.now (search rules)))))
     (views_same self.used used c.args.number (c.requires.entries channel))
     (now_here used c.args.number c.requires.above channel (c.requires.put channel)) c.amount-left.ensures.header c.amount-left.ensures.body (search rules)
     c.after-self.ensures
@@ -56,7 +61,9 @@ invariant_of-self-clause-counts_bodies c =
     let channel = c.advance.new.self in
     let used = with_value_at self.used c.args.place channel in
     bodies_written self.used used self.amounts c.after-self.result self.counts_headers self.counts_bodies self.bodies_fit c.args.number c.requires.above
-    (search rules) c.amount-before.result c.amount-left.result channel (search rules) (search rules)
+    (search rules) c.amount-before.result c.amount-left.result channel (search rules)
+    (c.amount-before.ensures.body
+    ∙ ap body_octets_on (sym (now_here self.used c.args.number c.requires.above c.index_mut-channel.result.now (c.requires.kept c.index_mut-channel.result.now (search rules)))))
     (views_same self.used used c.args.number (c.requires.entries channel))
     (now_here used c.args.number c.requires.above channel (c.requires.put channel)) c.amount-left.ensures.header c.amount-left.ensures.body (search rules)
     c.after-self.ensures
@@ -67,7 +74,9 @@ invariant_of-self-clause-bodies_fit c =
     let channel = c.advance.new.self in
     let used = with_value_at self.used c.args.place channel in
     fit_written self.used used self.amounts c.after-self.result self.counts_headers self.counts_bodies self.bodies_fit c.args.number c.requires.above
-    (search rules) c.amount-before.result c.amount-left.result channel (search rules) (search rules)
+    (search rules) c.amount-before.result c.amount-left.result channel (search rules)
+    (c.amount-before.ensures.body
+    ∙ ap body_octets_on (sym (now_here self.used c.args.number c.requires.above c.index_mut-channel.result.now (c.requires.kept c.index_mut-channel.result.now (search rules)))))
     (views_same self.used used c.args.number (c.requires.entries channel))
     (now_here used c.args.number c.requires.above channel (c.requires.put channel)) c.amount-left.ensures.header c.amount-left.ensures.body (search rules)
     c.after-self.ensures
