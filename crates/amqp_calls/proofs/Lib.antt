@@ -2,6 +2,7 @@ pub mod Begun
 pub mod Counting
 pub mod GatheredPlaces
 pub mod HeldContents
+pub mod KeptBatches
 pub mod LentHeaders
 pub mod LentPlaces
 pub mod PlacedPieces

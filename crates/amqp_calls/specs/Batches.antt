@@ -9,21 +9,33 @@ use Rattle.amqp_handle.specs.declared.kept.HeldEnd.{HeldEnd}
 use Rattle.amqp_handle.specs.declared.kept.Kept.{Kept}
 use Rattle.amqp_calls.specs.GatheredBatches.{GathersBatch}
 use Rattle.amqp_calls.specs.HeldEnds.{Of}
-use Rattle.amqp_calls.specs.LentBatches.{BatchAnswer}
+use Rattle.amqp_calls.specs.LentBatches.{LendsBatch}
 use Rattle.amqp_calls.specs.declared.ends.batching.EventPlace.{EventPlace}
 use Rattle.amqp_calls.specs.declared.ends.feeding.FedEnd.{FedEnd}
 
--- an end that lends has no gathering
-abbrev pub BatchOf : {R H : Type 0} {G : Ghosts R H} → StreamEnd R H G → Option (Box Gathering Global) → List ℕ
-    → List EventPlace → ℕ → FedEnd → (count : ℕ) → (now : List EventPlace) → Type 0
-BatchOf old None piece places status fed count now = BatchAnswer old piece places status fed count now
-BatchOf old (Some before) piece places status fed count now =
-    GathersBatch old before.value piece places status fed count now
+-- What is answered, and the end and the gathering that are left then. An end that lends has no gathering, before and
+-- after.
+abbrev pub BatchLeaves : {R H : Type 0} {G : Ghosts R H} → StreamEnd R H G → Option (Box Gathering Global) → List ℕ
+    → List EventPlace → ℕ → FedEnd → (count : ℕ) → (now : List EventPlace) → (new : StreamEnd R H G)
+    → (after : Option (Box Gathering Global)) → Type 0
+BatchLeaves old None piece places status fed count now new None =
+    LendsBatch old piece places status fed count now new
+BatchLeaves old None piece places status fed count now new (Some after) = ⊥
+BatchLeaves old (Some before) piece places status fed count now new None = ⊥
+BatchLeaves old (Some before) piece places status fed count now new (Some after) =
+    GathersBatch old before.value piece places status fed count now new after.value
 
-abbrev pub BatchOne : {R H : Type 0} {G : Ghosts R H} → Kept (StreamEnd R H G) → List ℕ → List EventPlace → ℕ → FedEnd
-    → (count : ℕ) → (now : List EventPlace) → Type 0
-BatchOne kept piece places status fed count now =
-    BatchOf kept.end.value kept.gathering piece places status fed count now
+-- of what a handle holds
+abbrev pub BatchKept : {R H : Type 0} {G : Ghosts R H} → Kept (StreamEnd R H G) → List ℕ → List EventPlace → ℕ
+    → FedEnd → (count : ℕ) → (now : List EventPlace) → (new : Kept (StreamEnd R H G)) → Type 0
+BatchKept old piece places status fed count now new =
+    BatchLeaves old.end.value old.gathering piece places status fed count now new.end.value new.gathering
+
+-- what is answered, whatever is left
+pub record BatchOne {R H : Type 0} {G : Ghosts R H} (old : Kept (StreamEnd R H G)) (piece : List ℕ)
+    (places : List EventPlace) (status : ℕ) (fed : FedEnd) (count : ℕ) (now : List EventPlace) : Type 0 where
+  pub new : Kept (StreamEnd R H G)
+  pub leaves : BatchKept old piece places status fed count now new
 
 -- a handle that isn't open is refused
 abbrev pub FeedsBatch : Option HeldEnd → List ℕ → List EventPlace → ℕ → FedEnd → (count : ℕ) → (now : List EventPlace)

@@ -230,6 +230,23 @@ pub record GathersFrames {R H : Type 0} {G : Ghosts R H} (old : StreamEnd R H G)
   pub placed : Placed (length piece) old before piece places feds left kept rest after.places.items count now
   pub stops : StopsGathering (length piece) left kept rest feds count (length places) answer fed new after
 
+-- there is a place for the event of a step
+abbrev pub HasRoom : Result (Option Step) ℕ → (count room : ℕ) → Type 0
+HasRoom (Ok None) count room = Unit {0}
+HasRoom (Ok (Some step)) count room = count < room
+HasRoom (Err status) count room = Unit {0}
+
+-- what came after the frames in the piece, of which there were so many
+abbrev pub GathersRest : {R H : Type 0} {G : Ghosts R H} → Result (Option Step) ℕ → (end : StreamEnd R H G)
+    → (before : Gathering) → (taken : ℕ) → (places : List EventPlace) → (shown : ℕ) → (status : ℕ)
+    → (after : Gathering) → (now : List EventPlace) → (count : ℕ) → Type 0
+GathersRest (Ok None) end before taken places shown status after now count =
+    (status ≡ 0) × (after ≡ before) × (now ≡ places) × (count ≡ shown)
+GathersRest (Ok (Some step)) end before taken places shown status after now count =
+    GathersLast before (came_lent step.came (given_in end)) taken places shown status after now count
+GathersRest (Err fault) end before taken places shown status after now count =
+    (status ≡ fault) × (after ≡ before) × (now ≡ places) × (count ≡ shown)
+
 -- ---- the batch
 
 -- Why the batch is over, with the feed of the last frame, if that doesn't lie in the piece.
@@ -259,13 +276,11 @@ pub data BatchStops {R H : Type 0} {G : Ghosts R H} (old : StreamEnd R H G) (bef
       → BatchStops old before all left kept rest feds last count room status fed new after
 
 -- What is told of a piece is shown, one feed after the other: each event as the end lends it, and each content once it
--- is whole.
+-- is whole. The end is left so, and so is what is gathered of it.
 pub record GathersBatch {R H : Type 0} {G : Ghosts R H} (old : StreamEnd R H G) (before : Gathering) (piece : List ℕ)
-    (places : List EventPlace) (status : ℕ) (fed : FedEnd) (count : ℕ) (now : List EventPlace) : Type 0 where
-  -- the end and what is gathered of it, as they are left
-  pub new : StreamEnd R H G
-  pub after : Gathering
-  -- the same, and the octets, after the frames in the piece
+    (places : List EventPlace) (status : ℕ) (fed : FedEnd) (count : ℕ) (now : List EventPlace)
+    (new : StreamEnd R H G) (after : Gathering) : Type 0 where
+  -- what the frames in the piece left, of the end, of what is gathered, and of the piece
   pub left : StreamEnd R H G
   pub kept : Gathering
   pub rest : List ℕ

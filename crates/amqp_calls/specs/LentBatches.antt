@@ -141,11 +141,10 @@ TellsRest answer taken shown places status fed count now =
 
 -- ---- the batch
 
--- the events of a piece are shown, and how many octets of it were taken
-pub record BatchAnswer {R H : Type 0} {G : Ghosts R H} (old : StreamEnd R H G) (piece : List ℕ)
-    (places : List EventPlace) (status : ℕ) (fed : FedEnd) (count : ℕ) (now : List EventPlace) : Type 0 where
-  -- the end that is left
-  pub new : StreamEnd R H G
+-- The events of a piece are shown, and how many octets of it were taken. The end is left so.
+pub record LendsBatch {R H : Type 0} {G : Ghosts R H} (old : StreamEnd R H G) (piece : List ℕ)
+    (places : List EventPlace) (status : ℕ) (fed : FedEnd) (count : ℕ) (now : List EventPlace)
+    (new : StreamEnd R H G) : Type 0 where
   -- So many octets are taken, and so many events are of frames in the piece; the places once these stand there.
   pub taken : ℕ
   pub shown : ℕ

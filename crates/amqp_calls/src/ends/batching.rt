@@ -1,12 +1,12 @@
 //! The events of a piece that is fed to an end, all in one call: here of one whose events lend.
-ghost use Rattle.std.specs.Prelude.{◌≡◌, ◌<◌, length};
+ghost use Rattle.std.specs.Prelude.{◌≡◌, ◌<◌, false, is_some, length};
 ghost use Rattle.std.specs.Borrow.{sem};
 ghost use Rattle.std.specs.Io.BufRead.{Rests};
 ghost use Rattle.amqp_core.specs.Stream.EventRefView.{event_ref_there, event_ref_view};
 ghost use Rattle.amqp_core.specs.contracts.stream.StreamEnd as stream_row;
 ghost use Rattle.amqp_handle.specs.contracts.kept.Kept as kept_row;
-ghost use Rattle.amqp_calls.specs.Batches.{BatchOne};
-ghost use Rattle.amqp_calls.specs.LentBatches.{BatchAnswer, HasRoom, LendsFrames, RestAnswer, RestKept, ShowsLast, TellsRest};
+ghost use Rattle.amqp_calls.specs.Batches.{BatchKept, BatchOne};
+ghost use Rattle.amqp_calls.specs.LentBatches.{HasRoom, LendsFrames, RestAnswer, RestKept, ShowsLast, TellsRest};
 ghost use Rattle.amqp_calls.specs.LentEvents.{TellsEvent};
 
 use crate::ends::events::SeenEvent;
@@ -14,7 +14,7 @@ use crate::ends::feeding::{FedEnd, tell_fault};
 use crate::ends::gathering::gather_batch;
 use crate::ends::lending::{BEGINS, HEADS, Lent, PART, show};
 use amqp_core::{CoreFault, EventRef, Role, Step, StreamEnd};
-use amqp_handle::Kept;
+use amqp_handle::{Gathering, Kept};
 
 /// An event in its place of a batch, and how many octets of the piece were taken up to its end.
 #[repr(C)]
@@ -22,6 +22,14 @@ use amqp_handle::Kept;
 pub struct EventPlace<'a> {
     pub seen: SeenEvent<'a>,
     pub taken: usize,
+}
+
+/// The status of a batch. With it goes the loan of the end and of its gathering, which the events borrow from too, so
+/// that a clause can say how they are left.
+#[derive(Clone, Copy)]
+pub struct Batch<'a> {
+    pub status: u32,
+    pub gathering: Option<&'a Gathering>,
 }
 
 /// An event of which nothing is known.
@@ -208,7 +216,7 @@ fn tell_rest<'a, R: Role>(
     }
 }
 
-/// Feeds an end with a piece, and shows the events.
+/// Feeds an end that lends with a piece, and shows the events.
 #[inline(always)]
 fn lend_batch<'a, R: Role>(
     kept: &'a mut Kept<StreamEnd<R>>,
@@ -216,11 +224,17 @@ fn lend_batch<'a, R: Role>(
     places: &mut [EventPlace<'a>],
     fed: &mut FedEnd,
     count: &mut usize,
-) -> u32
-    ensures { BatchAnswer kept.old.end.value piece.now places.old result fed.new count.new places.new }
+) -> Batch<'a>
+    requires { is_some kept.old.gathering ≡ false }
+    ensures answers { BatchOne kept.old piece.now places.old result.status fed.new count.new places.new }
+    ensures* after { sem 𝓛 (Rests (kept_row.the_row (stream_row.the_row R.row R.Hello.row R.Role)) kept.entry
+        (λ new. BatchKept kept.old piece.now places.old result.status fed.new count.new places.new new)) }
 {
     let answer = lend_rest(kept, piece, places, fed, count);
-    tell_rest(answer, &piece[..0], places, fed, count)
+    Batch {
+        status: tell_rest(answer, &piece[..0], places, fed, count),
+        gathering: None,
+    }
 }
 
 /// Feeds an end with a piece, and shows the events: those that it lends, or those of contents that it gathers.
@@ -231,15 +245,13 @@ pub fn batch_one<'a, R: Role>(
     places: &mut [EventPlace<'a>],
     fed: &mut FedEnd,
     count: &mut usize,
-) -> u32
-    ensures { BatchOne kept.old piece.now places.old result fed.new count.new places.new }
+) -> Batch<'a>
+    ensures answers { BatchOne kept.old piece.now places.old result.status fed.new count.new places.new }
+    ensures* after { sem 𝓛 (Rests (kept_row.the_row (stream_row.the_row R.row R.Hello.row R.Role)) kept.entry
+        (λ new. BatchKept kept.old piece.now places.old result.status fed.new count.new places.new new)) }
 {
     if kept.gathering.is_none() {
         return lend_batch(kept, piece, places, fed, count);
     }
-    let Kept { end, gathering } = kept;
-    match gathering {
-        Some(gathering) => gather_batch(end, gathering, piece, places, fed, count),
-        None => unreachable!(),
-    }
+    gather_batch(kept, piece, places, fed, count)
 }

@@ -2,16 +2,21 @@
 //!
 //! The event of a frame is shown as it lies in the piece, or in the end's buffer. Of a content that is whole, what
 //! came before its last part has the gathering's place of the same number; it is shown once all is fed.
-ghost use Rattle.std.specs.Prelude.{◌≡◌, ◌<◌, ◌≤◌, length, slice_get};
+ghost use Rattle.std.specs.Prelude.{◌≡◌, ◌<◌, ◌≤◌, true, is_some, length, slice_get};
+ghost use Rattle.std.specs.Borrow.{sem};
+ghost use Rattle.std.specs.Io.BufRead.{Rests};
 ghost use Rattle.amqp_core.specs.Stream.EventRefView.{event_ref_there, event_ref_view};
+ghost use Rattle.amqp_core.specs.contracts.stream.StreamEnd as stream_row;
 ghost use Rattle.amqp_handle.specs.Gathered.{StaysBefore};
-ghost use Rattle.amqp_calls.specs.GatheredBatches.{Completes, CompletesAt, CompletesEach, GathersBatch, GathersFrames, GathersLast, GathersStep, ShowsAt};
+ghost use Rattle.amqp_handle.specs.contracts.kept.Kept as kept_row;
+ghost use Rattle.amqp_calls.specs.Batches.{BatchKept, BatchOne};
+ghost use Rattle.amqp_calls.specs.GatheredBatches.{Completes, CompletesAt, CompletesEach, GathersFrames, GathersLast, GathersRest, GathersStep, HasRoom, ShowsAt};
 
-use crate::ends::batching::{EventPlace, nothing_seen, show_in};
+use crate::ends::batching::{Batch, EventPlace, nothing_seen, show_in};
 use crate::ends::events::SeenEvent;
 use crate::ends::feeding::{FAILED, FedEnd, OUT_OF_MEMORY, tell_fault};
 use amqp_core::{EventRef, Role, Step, StreamEnd};
-use amqp_handle::{Gathered, Gathering, OutOfMemory, Parts};
+use amqp_handle::{Gathered, Gathering, Kept, OutOfMemory, Parts};
 
 /// The number of a method without content, and of a content that is whole, which holds.
 const TOLD: u8 = 3;
@@ -146,6 +151,30 @@ fn gather_last<'a>(
     }
 }
 
+/// What comes of a piece after the frames that lie in it: the event of one that doesn't, or the status of what went
+/// wrong.
+#[inline(always)]
+fn gather_rest<'a, R: Role>(
+    answer: Result<Option<Step<'a>>, u32>,
+    end: &'a StreamEnd<R>,
+    gathering: &mut Gathering,
+    none: &'a [u8],
+    taken: usize,
+    places: &mut [EventPlace<'a>],
+    count: &mut usize,
+) -> u32
+    requires { HasRoom answer count.old (length places.old) }
+    ensures rest { GathersRest answer.entry end.now gathering.old taken places.old count.old result gathering.new
+        places.new count.new }
+    ensures stays { StaysBefore count.old gathering.old.places.items gathering.new.places.items }
+{
+    match answer {
+        Ok(None) => 0,
+        Ok(Some(step)) => gather_last(gathering, end.event(step), none, taken, places, count),
+        Err(status) => status,
+    }
+}
+
 /// Shows the payloads of a content that is whole, and its body, if a part of that came before the last one.
 #[inline(always)]
 fn complete<'a>(parts: &'a Parts, seen: &mut SeenEvent<'a>)
@@ -181,39 +210,51 @@ fn complete_each<'a>(parts: &'a [Parts], places: &mut [EventPlace<'a>], count: u
     }
 }
 
-/// Feeds an end with a piece, gathers its contents, and shows the events.
+/// Feeds an end that gathers with a piece, gathers its contents, and shows the events.
 #[inline(never)]
 pub(crate) fn gather_batch<'a, R: Role>(
-    end: &'a mut StreamEnd<R>,
-    gathering: &'a mut Gathering,
+    kept: &'a mut Kept<StreamEnd<R>>,
     piece: &'a [u8],
     places: &mut [EventPlace<'a>],
     fed: &mut FedEnd,
     count: &mut usize,
-) -> u32
-    ensures { GathersBatch end.old gathering.old piece.now places.old result fed.new count.new places.new }
+) -> Batch<'a>
+    requires { is_some kept.old.gathering ≡ true }
+    ensures answers { BatchOne kept.old piece.now places.old result.status fed.new count.new places.new }
+    ensures* after { sem 𝓛 (Rests (kept_row.the_row (stream_row.the_row R.row R.Hello.row R.Role)) kept.entry
+        (λ new. BatchKept kept.old piece.now places.old result.status fed.new count.new places.new new)) }
 {
+    let Kept { end, gathering } = &mut *kept;
+    let Some(gathering) = gathering else {
+        unreachable!()
+    };
     if gathering.is_lost {
         *count = 0;
         fed.taken = 0;
-        return FAILED;
+        return Batch {
+            status: FAILED,
+            gathering: None,
+        };
     }
-    let status = match gather_frames(end, gathering, piece, places, fed, count) {
-        Ok(None) => 0,
-        Ok(Some(step)) => {
-            let end: &'a StreamEnd<R> = end;
-            gather_last(
-                gathering,
-                end.event(step),
-                &piece[..0],
-                fed.taken,
-                places,
-                count,
-            )
-        }
-        Err(status) => status,
+    let answer = gather_frames(end, gathering, piece, places, fed, count);
+    // From here on the end is lent: the last event may lie in its buffer.
+    let end: &'a StreamEnd<R> = &kept.end;
+    let Some(gathering) = &mut kept.gathering else {
+        unreachable!()
     };
+    let status = gather_rest(
+        answer,
+        end,
+        gathering,
+        &piece[..0],
+        fed.taken,
+        places,
+        count,
+    );
     let gathering: &'a Gathering = gathering;
     complete_each(&gathering.places, places, *count);
-    status
+    Batch {
+        status,
+        gathering: Some(gathering),
+    }
 }

@@ -45,7 +45,7 @@ pub extern "C" fn proved_end_feed_batch<'a>(
         return HandleFault::NotOpen.number();
     }
     match slot.held() {
-        HeldEnd::Client(kept) => batch_one(kept, piece, places, fed, count),
-        HeldEnd::Server(kept) => batch_one(kept, piece, places, fed, count),
+        HeldEnd::Client(kept) => batch_one(kept, piece, places, fed, count).status,
+        HeldEnd::Server(kept) => batch_one(kept, piece, places, fed, count).status,
     }
 }

@@ -1,56 +1,61 @@
-use Rattle.std.proofs.Common.{◌≡◌, ℕ, [], Option, Some, None, Result, Ok, Err, refl, subst, ap, ◌∙◌}
-use Rattle.amqp_core.specs.declared.step.Step.{Step}
+use Rattle.std.proofs.Common.{[], Some, refl, sym, subst, ap, ◌∙◌}
+use Rattle.std.specs.Box.{with_value}
+use Rattle.amqp_handle.specs.Gathered.{StaysBefore}
 use Rattle.amqp_handle.specs.declared.gathering.Gathering.{Gathering}
-use Rattle.amqp_calls.specs.GatheredBatches.{lost, GathersFrames, GathersLast}
-use Rattle.amqp_calls.proofs.GatheredPlaces.{batch_apart, batch_fails, batch_over, batch_with, completes_with}
-use Rattle.amqp_calls.proofs.ends.gathering.gather_batch.Goals.{in-Ok-None, in-Ok-Some, in-Err}
+use Rattle.amqp_calls.specs.GatheredBatches.{lost, CompletesEach, GathersBatch, GathersFrames, GathersRest}
+use Rattle.amqp_calls.proofs.GatheredPlaces.{batch_rest}
+use Rattle.amqp_calls.proofs.KeptBatches.{gathers_kept}
 use Rattle.amqp_calls.proofs.ends.gathering.gather_batch.Goals as goal
 
-pub returns-then-gathering : goal.returns-then-gathering
-returns-then-gathering g c =
+pub returns-then-deref : goal.returns-then-deref
+returns-then-deref g c =
+    let kept = c.args.kept.now in
+    let piece = c.args.piece.now in
+    let places = c.args.places.now in
+    let before = c.in-Some.gathering in
+    let fed = record c.args.fed.now { taken = 0 } in
+    let new = record kept { gathering = Some before } in
+    let batch : GathersBatch kept.end.value before.value piece places 404 fed 0 places kept.end.value before.value =
     record {
-      new = c.args.end.now;
-      after = c.args.gathering.now;
-      left = c.args.end.now;
-      kept = c.args.gathering.now;
-      rest = c.args.piece.now;
+      left = kept.end.value;
+      kept = before.value;
+      rest = piece;
       feds = [];
       last = [];
       each = (refl, refl, refl);
-      stops = lost refl c.if-gathering.true refl refl refl refl refl;
+      stops = lost refl (ap (λ (k : Gathering). k.is_lost) (sym c.deref.ensures) ∙ c.if-deref.true) refl refl refl refl refl;
       after_loss = λ _. (refl, refl);
       shows = tt;
       as_many = refl;
       others = refl;
-    }
+    } in
+    let leaves = gathers_kept kept before piece places 404 fed 0 places new before c.in-Some.is refl batch in
+    ((refl, λ _. tt, leaves), record { answers = record { new = new; leaves = leaves }; after = tt })
 
 pub returns : goal.returns
 returns g c =
-    let m = c.match-gather_frames in
-    let n = c.gather_frames.new in
-    let old = c.args.end.now in
-    let before = c.args.gathering.now in
+    let kept = c.args.kept.now in
     let piece = c.args.piece.now in
     let places = c.args.places.now in
+    let before = c.in-Some.gathering in
+    let old = kept.end.value in
+    let answer = c.gather_frames-answer.result in
+    let n = c.gather_frames-answer.new in
+    let status = c.gather_rest-status.result in
+    let r = c.gather_rest-status.new in
     let final = c.complete_each.new.places in
-    let frames = λ (answer : Result (Option Step) ℕ) (is : c.gather_frames.result ≡ answer).
-    subst (λ a. GathersFrames old before piece places a n.fed n.count n.places n.end n.gathering) is c.gather_frames.ensures in
-    let parts = λ (gathering : Gathering) (is : m.gathering ≡ gathering). c.deref.ensures.value ∙ ap (λ (k : Gathering). k.places.items) is in
-    elim c.match-gather_frames.branch [
-      | in-Ok-None w ↦
-          let completes = completes_with (parts n.gathering w.gathering-is) w.count-is w.places-is c.complete_each.ensures in
-          batch_with w.status-is w.count-is
-          (batch_over old before piece places n.fed n.count n.places final n.end n.gathering c.if-gathering.false (frames (Ok None) (w.in-Ok-None.is ∙ ap Ok w.in-Ok-None.field-0-is)) completes)
-      | in-Ok-Some w ↦
-          let l = w.gather_last-status in
-          let step = w.in-Ok-Some.step in
-          let completes = completes_with (parts l.new.gathering w.gathering-is) w.count-is w.places-is c.complete_each.ensures in
-          let last = subst (λ event. GathersLast n.gathering event n.fed.taken n.places n.count l.result l.new.gathering l.new.places l.new.count) w.event.ensures l.ensures.last in
-          batch_with w.status-is w.count-is
-          (batch_apart old before piece places step n.fed n.count n.places n.end n.gathering l.new.gathering l.result l.new.count l.new.places final
-          c.if-gathering.false (frames (Ok (Some step)) (w.in-Ok-Some.is ∙ ap Ok w.in-Ok-Some.field-0-is)) last l.ensures.stays completes)
-      | in-Err w ↦
-          let completes = completes_with (parts n.gathering w.gathering-is) w.count-is w.places-is c.complete_each.ensures in
-          batch_with w.status-is w.count-is
-          (batch_fails old before piece places w.in-Err.status n.fed n.count n.places final n.end n.gathering c.if-gathering.false (frames (Err w.in-Err.status) w.in-Err.is) completes)
-    ]
+    let frames = subst (λ end. GathersFrames end before.value piece places answer n.fed n.count n.places n.end n.gathering) c.deref_mut.ensures.value
+    (subst (λ gathering. GathersFrames c.deref_mut.result.now gathering piece places answer n.fed n.count n.places n.end n.gathering) c.deref_mut-2.ensures.value
+    c.gather_frames-answer.ensures) in
+    let rest = subst (λ end. GathersRest answer end n.gathering n.fed.taken n.places n.count status r.gathering r.places r.count) c.deref-end.ensures
+    (subst (λ gathering. GathersRest answer c.deref-end.result.now gathering n.fed.taken n.places n.count status r.gathering r.places r.count) c.deref_mut-3.ensures.value
+    c.gather_rest-status.ensures.rest) in
+    let stays = subst (λ (gathering : Gathering). StaysBefore n.count gathering.places.items r.gathering.places.items) c.deref_mut-3.ensures.value c.gather_rest-status.ensures.stays in
+    let parts_are = c.deref-2.ensures.value ∙ ap (λ (k : Gathering). k.places.items) c.deref-gathering.ensures in
+    let completes = subst (λ parts. CompletesEach parts r.count r.places final) parts_are c.complete_each.ensures in
+    let well = ap (λ (k : Gathering). k.is_lost) (sym c.deref.ensures) ∙ c.if-deref.false in
+    let batch = batch_rest old before.value piece places answer n.fed n.count n.places n.end n.gathering r.gathering status r.count r.places final well frames rest stays completes in
+    let after = with_value (with_value before n.gathering) r.gathering in
+    let new = record kept { end = with_value kept.end n.end; gathering = Some after } in
+    let leaves = gathers_kept kept before piece places status n.fed r.count final new after c.in-Some.is refl batch in
+    ((refl, λ _. tt, leaves), record { answers = record { new = new; leaves = leaves }; after = tt })
