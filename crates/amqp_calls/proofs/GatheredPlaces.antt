@@ -1,5 +1,5 @@
 -- What is told of a piece by an end that gathers, each in its place.
-use Rattle.std.proofs.Common.{◌≡◌, ◌≢◌, ℕ, ◌+◌, ◌<◌, ◌≤◌, zero, suc, add-one, List, [], ◌∷◌, ◌++◌, length, take, drop, slice_set, inl, inr, Bool, true, false, ◌&&◌, nat_eq, cond, Option, Some, None, Result, Ok, Err, refl, sym, subst, ap, ◌∙◌, arith}
+use Rattle.std.proofs.Common.{◌≡◌, ◌≢◌, ℕ, ◌+◌, ◌<◌, ◌≤◌, zero, suc, add-one, List, [], ◌∷◌, ◌++◌, length, take, drop, slice_set, inl, inr, Bool, true, false, ◌&&◌, nat_eq, cond, Option, Some, None, Ok, Err, refl, sym, subst, ap, ◌∙◌, arith}
 use native.Mathlib.Numerals.{unary_clauses}
 use Rattle.std.specs.Prelude.{slice_get}
 use Rattle.std.proofs.lemmas.List.{append-nil, drop-set-lt, length-set, length-take, take_more_set}
@@ -16,7 +16,7 @@ use Rattle.amqp_handle.specs.declared.gathering.Gathered.{Gathered}
 use Rattle.amqp_handle.specs.declared.gathering.Gathered.TheVariants as code
 use Rattle.amqp_handle.specs.declared.gathering.Gathering.{Gathering}
 use Rattle.amqp_handle.specs.declared.gathering.Parts.{Parts}
-use Rattle.amqp_calls.specs.GatheredBatches.{is_told, is_whole, told_in, BatchStops, over, apart, fails, CompletesAll, CompletesAt, CompletesEach, Fed, GathersAt, GathersBatch, GathersEach, GathersFrames, GathersLast, GathersNext, GathersRest, HalfShows, HalfShowsEach, HalfShowsFed, HasRoom, Placed, Refuses, Shows, ShowsAt, ShowsEach, ShowsIf}
+use Rattle.amqp_calls.specs.GatheredBatches.{is_told, is_whole, told_in, BatchStops, over, apart, fails, CompletesAll, CompletesAt, CompletesEach, Fed, GathersAt, GathersBatch, GathersEach, GathersFrames, GathersLast, GathersNext, HalfShows, HalfShowsEach, HalfShowsFed, Placed, Refuses, Shows, ShowsAt, ShowsEach, ShowsIf}
 use Rattle.amqp_calls.specs.LentEvents.{TellsEvent}
 use Rattle.amqp_calls.specs.declared.ends.batching.EventPlace.{EventPlace}
 use Rattle.amqp_calls.specs.declared.ends.events.SeenEvent.{SeenEvent}
@@ -385,65 +385,3 @@ batch_apart old before piece places step fed count now new gathering after statu
     let placed_more = subst (λ f. Placed (length piece) old before piece places f left gathering rest after.places.items next filled) (sym (append-nil feds)) placed in
     batch_of old before piece places feds [] left frames.kept rest rest after.places.items status next fed filled final left new gathering after
     well frames.placed.each placed_more completes (fails refl (inr (record { octets = step.octets; event = came_lent step.came (given_in new) }, lends, status_is, refuses.lost, taken_is)))
-
--- the same of values that are equal
-completes_with : {parts parts_too : List Parts} {count count_too : ℕ} {now now_too final : List EventPlace} → parts ≡ parts_too → count ≡ count_too → now ≡ now_too
-    → CompletesEach parts count now final → CompletesEach parts_too count_too now_too final
-completes_with {parts_too = parts_too} {count = count} {count_too = count_too} {now = now} {final = final} parts_are count_is now_is completes =
-    subst (λ l. CompletesEach parts_too count_too l final) now_is (subst (λ n. CompletesEach parts_too n now final) count_is
-    (subst (λ p. CompletesEach p count now final) parts_are completes))
-
-batch_with : {R H : Type 0} {G : Ghosts R H} {old : StreamEnd R H G} {before : Gathering} {piece : List ℕ} {places : List EventPlace} {status status_too : ℕ}
-    {fed : FedEnd} {count count_too : ℕ} {final : List EventPlace} {new : StreamEnd R H G} {after after_too : Gathering} → status_too ≡ status → count_too ≡ count → after_too ≡ after
-    → GathersBatch old before piece places status fed count final new after → GathersBatch old before piece places status_too fed count_too final new after_too
-batch_with {old = old} {before = before} {piece = piece} {places = places} {status_too = status_too} {fed = fed} {count = count} {count_too = count_too} {final = final} {new = new} {after = after}
-    status_is count_is after_is batch =
-    subst (λ gathering. GathersBatch old before piece places status_too fed count_too final new gathering) (sym after_is)
-    (subst (λ n. GathersBatch old before piece places status_too fed n final new after) (sym count_is)
-    (subst (λ s. GathersBatch old before piece places s fed count final new after) (sym status_is) batch))
-
--- what comes of a piece after the frames that lie in it, once each content is shown whole
-pub batch_rest : {R H : Type 0} {G : Ghosts R H} (old : StreamEnd R H G) (before : Gathering) (piece : List ℕ) (places : List EventPlace) (answer : Result (Option Step) ℕ)
-    (fed : FedEnd) (count : ℕ) (now : List EventPlace) (new : StreamEnd R H G) (gathering after : Gathering) (status next : ℕ) (filled final : List EventPlace)
-    → before.is_lost ≡ false → GathersFrames old before piece places answer fed count now new gathering
-    → GathersRest answer new gathering fed.taken now count status after filled next
-    → StaysBefore count gathering.places.items after.places.items → CompletesEach after.places.items next filled final
-    → GathersBatch old before piece places status fed next final new after
-batch_rest old before piece places (Ok None) fed count now new gathering after status next filled final well frames (status_is, after_is, now_is, count_is) stays completes =
-    batch_with status_is count_is after_is
-    (batch_over old before piece places fed count now final new gathering well frames (completes_with (ap (λ (k : Gathering). k.places.items) after_is) count_is now_is completes))
-batch_rest old before piece places (Ok (Some step)) fed count now new gathering after status next filled final well frames last stays completes =
-    batch_apart old before piece places step fed count now new gathering after status next filled final well frames last stays completes
-batch_rest old before piece places (Err fault) fed count now new gathering after status next filled final well frames (status_is, after_is, now_is, count_is) stays completes =
-    batch_with status_is count_is after_is
-    (batch_fails old before piece places fault fed count now final new gathering well frames (completes_with (ap (λ (k : Gathering). k.places.items) after_is) count_is now_is completes))
-
--- there is a place for the event of a step that is answered
-pub has_room : {R H : Type 0} {G : Ghosts R H} (old : StreamEnd R H G) (before : Gathering) (piece : List ℕ) (places : List EventPlace) (answer : Result (Option Step) ℕ)
-    (fed : FedEnd) (count : ℕ) (now : List EventPlace) (new : StreamEnd R H G) (after : Gathering)
-    → GathersFrames old before piece places answer fed count now new after → HasRoom answer count (length now)
-has_room old before piece places (Ok None) fed count now new after frames = tt
-has_room old before piece places (Ok (Some step)) fed count now new after frames = omega (arith, frames.placed.as_many, frames.stops.0)
-has_room old before piece places (Err status) fed count now new after frames = tt
-
-next_within : (shown : Bool) (count next room : ℕ) → next ≡ cond shown (count + 1) count → count < room → next ≤ room
-next_within true count next room is less = omega (arith, is, less)
-next_within false count next room is less = omega (arith, is, less)
-
-same_within : (count next : ℕ) (now filled places : List EventPlace) → filled ≡ now → next ≡ count → length now ≡ length places → count ≤ length places → next ≤ length filled
-same_within count next now filled places now_is count_is same within = rw (now_is, count_is) (omega (arith, same, within))
-
--- no more events are shown than there are places
-pub has_places : {R H : Type 0} {G : Ghosts R H} (old : StreamEnd R H G) (before : Gathering) (piece : List ℕ) (places : List EventPlace) (answer : Result (Option Step) ℕ)
-    (fed : FedEnd) (count : ℕ) (now : List EventPlace) (new : StreamEnd R H G) (gathering after : Gathering) (status next : ℕ) (filled : List EventPlace)
-    → GathersFrames old before piece places answer fed count now new gathering
-    → GathersRest answer new gathering fed.taken now count status after filled next → next ≤ length filled
-has_places old before piece places (Ok None) fed count now new gathering after status next filled frames (status_is, after_is, now_is, count_is) =
-    same_within count next now filled places now_is count_is frames.placed.as_many frames.placed.within
-has_places old before piece places (Ok (Some step)) fed count now new gathering after status next filled frames (inl (status_is, gathers)) =
-    rw (gathers.now_is, length-set now count gathers.place)
-    (next_within gathers.is_shown count next (length now) gathers.count_is (has_room old before piece places (Ok (Some step)) fed count now new gathering frames))
-has_places old before piece places (Ok (Some step)) fed count now new gathering after status next filled frames (inr (status_is, refuses)) =
-    same_within count next now filled places refuses.same refuses.count_is frames.placed.as_many frames.placed.within
-has_places old before piece places (Err fault) fed count now new gathering after status next filled frames (status_is, after_is, now_is, count_is) =
-    same_within count next now filled places now_is count_is frames.placed.as_many frames.placed.within

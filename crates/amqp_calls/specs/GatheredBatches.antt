@@ -1,6 +1,7 @@
 -- What a batch of feeds of an end behind a handle does that gathers contents. Read before: what one feed of an end does
 -- (`Lends` of `amqp_core`), and what is told of its events (`Gathered` of `amqp_handle`).
-use Rattle.std.specs.Prelude.{◌≡◌, ◌≢◌, ◌+◌, ◌<◌, ◌≤◌, ◌⊎◌, ◌&&◌, cond, nat_eq, Bool, true, false, ℕ, List, [], ◌∷◌}
+use Rattle.std.specs.Global.{Global}
+use Rattle.std.specs.Prelude.{Box, ◌≡◌, ◌≢◌, ◌+◌, ◌<◌, ◌≤◌, ◌⊎◌, ◌&&◌, cond, nat_eq, Bool, true, false, ℕ, List, [], ◌∷◌}
 use Rattle.std.specs.Prelude.{◌++◌, length, take, drop, Option, Some, None, Result, Ok, Err, slice_get, slice_set}
 use Rattle.amqp_model.specs.Lent.Alike.{LentEvent}
 use Rattle.amqp_core.specs.Stream.Lending.{LentSeen}
@@ -12,12 +13,13 @@ use Rattle.amqp_core.specs.declared.roles.Role.{Ghosts}
 use Rattle.amqp_core.specs.declared.step.Step.{Step}
 use Rattle.amqp_core.specs.declared.stream.StreamEnd.{StreamEnd}
 use Rattle.amqp_core.specs.Stream.EventRefView.{event_ref_view}
-use Rattle.amqp_handle.specs.Gathered.{joined, Gathers, IsThere, TellsMaybe, Told, Nothing, AsLent, Whole}
+use Rattle.amqp_handle.specs.Gathered.{joined, Gathers, IsThere, StaysBefore, TellsMaybe, Told, Nothing, AsLent, Whole}
 use Rattle.amqp_handle.specs.declared.gathering.Gathered.{Gathered}
 use Rattle.amqp_handle.specs.declared.gathering.Gathered.TheVariants as gathered
 use Rattle.amqp_handle.specs.declared.gathering.Gathering.{Gathering}
 use Rattle.amqp_handle.specs.declared.gathering.OutOfMemory.{OutOfMemory}
 use Rattle.amqp_handle.specs.declared.gathering.Parts.{Parts}
+use Rattle.amqp_handle.specs.declared.kept.Kept.{Kept}
 use Rattle.amqp_calls.specs.EndNumbers.{core_status}
 use Rattle.amqp_calls.specs.Feeding.{TellsCode}
 use Rattle.amqp_calls.specs.LentEvents.{TellsEvent}
@@ -230,22 +232,26 @@ pub record GathersFrames {R H : Type 0} {G : Ghosts R H} (old : StreamEnd R H G)
   pub placed : Placed (length piece) old before piece places feds left kept rest after.places.items count now
   pub stops : StopsGathering (length piece) left kept rest feds count (length places) answer fed new after
 
--- there is a place for the event of a step
-abbrev pub HasRoom : Result (Option Step) ℕ → (count room : ℕ) → Type 0
-HasRoom (Ok None) count room = Unit {0}
-HasRoom (Ok (Some step)) count room = count < room
-HasRoom (Err status) count room = Unit {0}
+-- each content is shown whole
+abbrev pub Finishes : Option (Box Gathering Global) → (count : ℕ) → (old new : List EventPlace) → Type 0
+Finishes None count old new = Unit {0}
+Finishes (Some gathering) count old new = CompletesEach gathering.value.places.items count old new
 
--- what came after the frames in the piece, of which there were so many
-abbrev pub GathersRest : {R H : Type 0} {G : Ghosts R H} → Result (Option Step) ℕ → (end : StreamEnd R H G)
-    → (before : Gathering) → (taken : ℕ) → (places : List EventPlace) → (shown : ℕ) → (status : ℕ)
-    → (after : Gathering) → (now : List EventPlace) → (count : ℕ) → Type 0
-GathersRest (Ok None) end before taken places shown status after now count =
-    (status ≡ 0) × (after ≡ before) × (now ≡ places) × (count ≡ shown)
-GathersRest (Ok (Some step)) end before taken places shown status after now count =
-    GathersLast before (came_lent step.came (given_in end)) taken places shown status after now count
-GathersRest (Err fault) end before taken places shown status after now count =
-    (status ≡ fault) × (after ≡ before) × (now ≡ places) × (count ≡ shown)
+-- What a step tells whose event doesn't lie in the piece has the next place, and each content is shown whole. Of what a
+-- handle holds the gathering alone changes.
+pub record GathersRest {R H : Type 0} {G : Ghosts R H} (old : Kept (StreamEnd R H G)) (step : Step) (taken : ℕ)
+    (places : List EventPlace) (shown status count : ℕ) (now : List EventPlace) (new : Kept (StreamEnd R H G)) :
+    Type 0 where
+  pub before : Box Gathering Global
+  pub held : old.gathering ≡ Some before
+  pub after : Box Gathering Global
+  pub left : new ≡ record old { gathering = Some after }
+  pub filled : List EventPlace
+  pub last :
+      GathersLast before.value (came_lent step.came (given_in old.end.value)) taken places shown status after.value
+      filled count
+  pub stays : StaysBefore shown before.value.places.items after.value.places.items
+  pub completes : CompletesEach after.value.places.items count filled now
 
 -- ---- the batch
 

@@ -253,5 +253,9 @@ pub fn batch_one<'a, R: Role>(
     if kept.gathering.is_none() {
         return lend_batch(kept, piece, places, fed, count);
     }
-    gather_batch(kept, piece, places, fed, count)
+    let batch = gather_batch(kept, piece, places, fed, count);
+    Batch {
+        status: batch.status,
+        gathering: Some(batch.gathering),
+    }
 }

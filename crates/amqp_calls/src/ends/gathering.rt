@@ -10,9 +10,9 @@ ghost use Rattle.amqp_core.specs.contracts.stream.StreamEnd as stream_row;
 ghost use Rattle.amqp_handle.specs.Gathered.{StaysBefore};
 ghost use Rattle.amqp_handle.specs.contracts.kept.Kept as kept_row;
 ghost use Rattle.amqp_calls.specs.Batches.{BatchKept, BatchOne};
-ghost use Rattle.amqp_calls.specs.GatheredBatches.{Completes, CompletesAt, CompletesEach, GathersFrames, GathersLast, GathersRest, GathersStep, HasRoom, ShowsAt};
+ghost use Rattle.amqp_calls.specs.GatheredBatches.{Completes, CompletesAt, CompletesEach, Finishes, GathersFrames, GathersLast, GathersRest, GathersStep, ShowsAt};
 
-use crate::ends::batching::{Batch, EventPlace, nothing_seen, show_in};
+use crate::ends::batching::{EventPlace, nothing_seen, show_in};
 use crate::ends::events::SeenEvent;
 use crate::ends::feeding::{FAILED, FedEnd, OUT_OF_MEMORY, tell_fault};
 use amqp_core::{EventRef, Role, Step, StreamEnd};
@@ -151,30 +151,6 @@ fn gather_last<'a>(
     }
 }
 
-/// What comes of a piece after the frames that lie in it: the event of one that doesn't, or the status of what went
-/// wrong.
-#[inline(always)]
-fn gather_rest<'a, R: Role>(
-    answer: Result<Option<Step<'a>>, u32>,
-    end: &'a StreamEnd<R>,
-    gathering: &mut Gathering,
-    none: &'a [u8],
-    taken: usize,
-    places: &mut [EventPlace<'a>],
-    count: &mut usize,
-) -> u32
-    requires { HasRoom answer count.old (length places.old) }
-    ensures rest { GathersRest answer.entry end.now gathering.old taken places.old count.old result gathering.new
-        places.new count.new }
-    ensures stays { StaysBefore count.old gathering.old.places.items gathering.new.places.items }
-{
-    match answer {
-        Ok(None) => 0,
-        Ok(Some(step)) => gather_last(gathering, end.event(step), none, taken, places, count),
-        Err(status) => status,
-    }
-}
-
 /// Shows the payloads of a content that is whole, and its body, if a part of that came before the last one.
 #[inline(always)]
 fn complete<'a>(parts: &'a Parts, seen: &mut SeenEvent<'a>)
@@ -210,6 +186,56 @@ fn complete_each<'a>(parts: &'a [Parts], places: &mut [EventPlace<'a>], count: u
     }
 }
 
+/// The status of a batch, and the gathering that its events borrow from.
+#[derive(Clone, Copy)]
+pub(crate) struct GatheredBatch<'a> {
+    pub(crate) status: u32,
+    pub(crate) gathering: &'a Gathering,
+}
+
+/// Ends a batch: each content is shown whole.
+#[inline(always)]
+fn finish<'a, R: Role>(
+    kept: &'a Kept<StreamEnd<R>>,
+    status: u32,
+    places: &mut [EventPlace<'a>],
+    count: usize,
+) -> GatheredBatch<'a>
+    requires { (is_some kept.now.gathering ≡ true) × (count ≤ length places.old) }
+    ensures status { result.status ≡ status }
+    ensures whole { Finishes kept.now.gathering count places.old places.new }
+{
+    let Some(gathering) = &kept.gathering else {
+        unreachable!()
+    };
+    complete_each(&gathering.places, places, count);
+    GatheredBatch { status, gathering }
+}
+
+/// Gathers the event of a frame that doesn't lie in the piece, if there is one, and ends the batch.
+#[inline(always)]
+fn gather_rest<'a, R: Role>(
+    kept: &'a mut Kept<StreamEnd<R>>,
+    step: Step<'a>,
+    none: &'a [u8],
+    taken: usize,
+    places: &mut [EventPlace<'a>],
+    count: &mut usize,
+) -> GatheredBatch<'a>
+    requires { (is_some kept.old.gathering ≡ true) × (count.old < length places.old) }
+    ensures* after { sem 𝓛 (Rests (kept_row.the_row (stream_row.the_row R.row R.Hello.row R.Role)) kept.entry
+        (λ new. GathersRest kept.old step.entry taken places.old count.old result.status count.new places.new new)) }
+{
+    let end: &'a StreamEnd<R> = &kept.end;
+    let Some(gathering) = &mut kept.gathering else {
+        unreachable!()
+    };
+    let status = gather_last(gathering, end.event(step), none, taken, places, count);
+    let gathering: &'a Gathering = gathering;
+    complete_each(&gathering.places, places, *count);
+    GatheredBatch { status, gathering }
+}
+
 /// Feeds an end that gathers with a piece, gathers its contents, and shows the events.
 #[inline(never)]
 pub(crate) fn gather_batch<'a, R: Role>(
@@ -218,7 +244,7 @@ pub(crate) fn gather_batch<'a, R: Role>(
     places: &mut [EventPlace<'a>],
     fed: &mut FedEnd,
     count: &mut usize,
-) -> Batch<'a>
+) -> GatheredBatch<'a>
     requires { is_some kept.old.gathering ≡ true }
     ensures answers { BatchOne kept.old piece.now places.old result.status fed.new count.new places.new }
     ensures* after { sem 𝓛 (Rests (kept_row.the_row (stream_row.the_row R.row R.Hello.row R.Role)) kept.entry
@@ -231,30 +257,18 @@ pub(crate) fn gather_batch<'a, R: Role>(
     if gathering.is_lost {
         *count = 0;
         fed.taken = 0;
-        return Batch {
-            status: FAILED,
-            gathering: None,
-        };
+        let kept: &'a Kept<StreamEnd<R>> = kept;
+        return finish(kept, FAILED, places, 0);
     }
-    let answer = gather_frames(end, gathering, piece, places, fed, count);
-    // From here on the end is lent: the last event may lie in its buffer.
-    let end: &'a StreamEnd<R> = &kept.end;
-    let Some(gathering) = &mut kept.gathering else {
-        unreachable!()
-    };
-    let status = gather_rest(
-        answer,
-        end,
-        gathering,
-        &piece[..0],
-        fed.taken,
-        places,
-        count,
-    );
-    let gathering: &'a Gathering = gathering;
-    complete_each(&gathering.places, places, *count);
-    Batch {
-        status,
-        gathering: Some(gathering),
+    match gather_frames(end, gathering, piece, places, fed, count) {
+        Ok(None) => {
+            let kept: &'a Kept<StreamEnd<R>> = kept;
+            finish(kept, 0, places, *count)
+        }
+        Ok(Some(step)) => gather_rest(kept, step, &piece[..0], fed.taken, places, count),
+        Err(status) => {
+            let kept: &'a Kept<StreamEnd<R>> = kept;
+            finish(kept, status, places, *count)
+        }
     }
 }
