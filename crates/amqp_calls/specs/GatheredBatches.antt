@@ -1,8 +1,8 @@
 -- What a batch of feeds of an end behind a handle does that gathers contents. Read before: what one feed of an end does
 -- (`Lends` of `amqp_core`), and what is told of its events (`Gathered` of `amqp_handle`).
 use Rattle.std.specs.Global.{Global}
-use Rattle.std.specs.Prelude.{Box, ◌≡◌, ◌≢◌, ◌+◌, ◌<◌, ◌≤◌, ◌⊎◌, ◌&&◌, cond, nat_eq, Bool, true, false, ℕ, List, [], ◌∷◌}
-use Rattle.std.specs.Prelude.{◌++◌, length, take, drop, Option, Some, None, Result, Ok, Err, slice_get, slice_set}
+use Rattle.std.specs.Prelude.{◌≡◌, ◌≢◌, ◌+◌, ◌<◌, ◌≤◌, ◌⊎◌, ◌&&◌, cond, nat_eq, Bool, true, false, ℕ, List, [], ◌∷◌}
+use Rattle.std.specs.Prelude.{◌++◌, Box, length, take, drop, Option, Some, None, Result, Ok, Err, slice_get, slice_set}
 use Rattle.amqp_model.specs.Lent.Alike.{LentEvent}
 use Rattle.amqp_core.specs.Stream.Lending.{LentSeen}
 use Rattle.amqp_core.specs.Stream.Lends.{Lends}
