@@ -110,16 +110,27 @@ impl<'a> MethodRef<'a> {
 
     /// Builds the arguments.
     ///
-    /// Most methods are of three kinds, whose fields are known: their arguments take half as many instructions so as by
-    /// their rows.
+    /// Most methods that no content follows are acks, whose fields are known: so their arguments take half as many
+    /// instructions as by their row.
     #[inline(never)]
     pub(crate) fn own_args(self, alloc: Global) -> Result<Vec<Arg>, OutOfMemory>
         ensures args { IfOk result (λ args. args_view args.items ≡ (lent_call self.entry).args) }
         ensures fit { Fits (lent_call self.entry) }
     {
+        match self.kind {
+            Kind::BasicAck => self.lent_args().own_ack(alloc),
+            _ => self.own_others(alloc),
+        }
+    }
+
+    /// The same for other methods than acks. Those that begin most contents have known fields too.
+    #[inline(never)]
+    fn own_others(self, alloc: Global) -> Result<Vec<Arg>, OutOfMemory>
+        ensures args { IfOk result (λ args. args_view args.items ≡ (lent_call self.entry).args) }
+        ensures fit { Fits (lent_call self.entry) }
+    {
         let lent = self.lent_args();
         match self.kind {
-            Kind::BasicAck => lent.own_ack(alloc),
             Kind::BasicPublish => lent.own_publish(alloc),
             Kind::BasicDeliver => lent.own_deliver(alloc),
             _ => self.own_by_row(alloc),
