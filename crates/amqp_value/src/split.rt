@@ -89,8 +89,7 @@ fn split_octet(octets: &[u8]) -> (u8, &[u8])
     requires { 0 < length octets.now }
     ensures { octets.now ≡ result.0 ∷ result.1.now }
 {
-    let (octet, rest) = octets.split_first().unwrap();
-    (*octet, rest)
+    (octets[0], &octets[1..])
 }
 
 /// The tag that octets begin with, and the octets after it.
