@@ -145,7 +145,8 @@ impl<'a> ArgsRef<'a> {
     fn own_known_bit(self, args: &mut Vec<Arg>) -> ArgsRef<'a>
         requires first { BeginsWith kinds.Bit false (map field_view self.fields.now) }
         requires room { vec_len args.old < vec_capacity args.old }
-        ensures added { args_view args.new.items ++ args_left result ≡ args_view args.old.items ++ args_left self.entry }
+        ensures added { args_view args.new.items ++ args_left result
+            ≡ args_view args.old.items ++ args_left self.entry }
         ensures left { map field_view result.fields.now ≡ drop 1 (map field_view self.entry.fields.now) }
         ensures len { vec_len args.new ≤ vec_len args.old + 1 }
         ensures capacity { vec_capacity args.new ≡ vec_capacity args.old }
@@ -160,7 +161,8 @@ impl<'a> ArgsRef<'a> {
     fn own_known_long_long(self, args: &mut Vec<Arg>) -> ArgsRef<'a>
         requires first { BeginsWith kinds.LongLong false (map field_view self.fields.now) }
         requires room { vec_len args.old < vec_capacity args.old }
-        ensures added { args_view args.new.items ++ args_left result ≡ args_view args.old.items ++ args_left self.entry }
+        ensures added { args_view args.new.items ++ args_left result
+            ≡ args_view args.old.items ++ args_left self.entry }
         ensures left { map field_view result.fields.now ≡ drop 1 (map field_view self.entry.fields.now) }
         ensures len { vec_len args.new ≤ vec_len args.old + 1 }
         ensures capacity { vec_capacity args.new ≡ vec_capacity args.old }
