@@ -119,8 +119,8 @@ impl<'a> ArgsRef<'a> {
         }
     }
 
-    /// Builds the short string that stands first, for which there is room, and adds it. The answer is what is left after
-    /// it.
+    /// Builds the short string that stands first, for which there is room, and adds it. The answer is what is left
+    /// after it.
     ///
     /// It is built of its octets and those that go on after it: so a short one is copied by whole words.
     #[inline(always)]
