@@ -18,6 +18,7 @@ pub mod TableLaws
 pub mod Tags
 pub mod Texts
 pub mod Told
+pub mod Walking
 pub mod Whole
 pub mod Words
 pub mod Written

@@ -118,7 +118,7 @@ fn past_plain_pair(octets: &[u8]) -> Option<&[u8]>
 /// Checks a name and the value under it. The answer is how many octets are left after both.
 #[inline(never)]
 #[cycle(check)]
-fn check_pair(octets: &[u8], end: usize, levels: usize) -> Result<usize, ValueFault>
+pub fn check_pair(octets: &[u8], end: usize, levels: usize) -> Result<usize, ValueFault>
     requires { length octets.now ≤ end }
     ensures checked { Equals (λ left. drop (length octets.now - left) octets.now) result
         (skipped (named (value_at levels) end octets.now)) }

@@ -13,6 +13,7 @@ mod items_ref;
 mod laws;
 mod length;
 mod octets;
+mod one_walk;
 mod own;
 mod pairs_ref;
 mod queries;

@@ -20,11 +20,11 @@ use std::alloc::Global;
 /// How many octets a pair of a table, and a value of an array, are expected to have. Room for as many as the
 /// octets then hold is made at once, but for no more than a few, since a long value looks like many. What is left over
 /// is given back, so a table takes the memory of its pairs and values and no more.
-const EXPECTED_PAIR: usize = 12;
+pub const EXPECTED_PAIR: usize = 12;
 
 const EXPECTED_VALUE: usize = 8;
 
-const FEW: usize = 8;
+pub const FEW: usize = 8;
 
 /// The value of fixed size that the octets after its tag are.
 #[inline(always)]
@@ -64,7 +64,7 @@ fn scalar_value(tag: ScalarTag, field: &[u8]) -> Value
 
 /// Adds a pair whose value is of fixed size, where there is room for it.
 #[inline(always)]
-fn push_one(pairs: &mut Vec<(ShortStr, Value)>, name: ShortStr, tag: ScalarTag, field: &[u8])
+pub fn push_one(pairs: &mut Vec<(ShortStr, Value)>, name: ShortStr, tag: ScalarTag, field: &[u8])
     requires room { vec_len pairs.old < vec_capacity pairs.old }
     requires width { length field.now ≡ width_of tag }
     ensures { map named_view pairs.new.items ≡ map named_view pairs.old.items
@@ -139,7 +139,7 @@ fn own_short_pair<'a>(pairs: &mut Vec<(ShortStr, Value)>, octets: &'a [u8]) -> O
 /// Builds a pair of a table, and adds it. The answer is how many octets are left after it.
 #[inline(never)]
 #[cycle(own)]
-fn own_pair(
+pub fn own_pair(
     alloc: Global,
     pairs: &mut Vec<(ShortStr, Value)>,
     octets: &[u8],

@@ -6,6 +6,7 @@ ghost use Rattle.amqp_value.specs.View.{pairs_view};
 
 use crate::fault::{OutOfMemory, ValueFault, ValueFaultKind};
 use crate::length::table_length;
+use crate::one_walk::read_counted;
 use crate::own::fill_pairs;
 use crate::queries::{find, place_of};
 use crate::short_str::ShortStr;
@@ -51,13 +52,14 @@ impl fmt::Debug for Table {
 }
 
 impl Table {
-    ghost use Rattle.std.specs.Prelude.{◌≡◌, ◌<◌, ◌↔◌, ◌⊎◌, OnOk, OnErr, length, ◌==◌, IfOk, IfErr, IsOk, MatchOption, Some, None, Err};
+    ghost use Rattle.std.specs.Prelude.{◌≡◌, ◌<◌, ◌↔◌, ◌⊎◌, OnOk, OnErr, length, ◌==◌, IfOk, IfErr, IsOk, IfSome, MatchOption, Some, None, Ok, Err};
     ghost use Rattle.std.specs.Slice.Iter.{iter_rest};
     ghost use Rattle.amqp_value.specs.Pairs.{pair_count, value_named, without};
     ghost use Rattle.amqp_value.specs.SetsValue.{SetsValue};
     ghost use Rattle.amqp_value.specs.Lengths.{capped};
     ghost use Rattle.amqp_value.specs.Plain.{plain_table};
     ghost use Rattle.amqp_value.specs.Faults.{fault_at, out_of_memory};
+    ghost use Rattle.amqp_value.specs.Reading.{table_at};
     ghost use Rattle.amqp_value.specs.Tables.{table_view};
     ghost use Rattle.amqp_value.specs.Values.{no_pairs, pairs_of, with_pair};
     ghost use Rattle.amqp_value.specs.View.{view};
@@ -89,6 +91,28 @@ impl Table {
             Err(fault) => {
                 clear_pairs(&mut self.pairs);
                 Err(fault)
+            }
+        }
+    }
+
+    /// Reads the table that a prefix of the octets encodes, in the place of what was there: it is checked and built in
+    /// one walk. The answer is its size in octets.
+    ///
+    /// None where the octets begin with no table, or memory ran out; the table then has no pairs. The fault is told by
+    /// [`check_table`](crate::check_table).
+    pub fn read_from(&mut self, alloc: Global, octets: &[u8]) -> Option<usize>
+        ensures read { IfSome result (λ size. table_at octets.now ≡ Ok (table_view self.new, size)) }
+        ensures within { IfSome result (λ size. size ≤ length octets.now) }
+        ensures none { result ≡ None → table_view self.new ≡ no_pairs }
+    {
+        match read_counted(alloc, &mut self.pairs, octets) {
+            Some((size, in_place)) => {
+                self.in_place = in_place;
+                Some(size)
+            }
+            None => {
+                clear_pairs(&mut self.pairs);
+                None
             }
         }
     }

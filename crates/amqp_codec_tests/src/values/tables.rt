@@ -36,6 +36,13 @@ fn assert_printed(
     Ok(())
 }
 
+/// The octets are read as this table in the place of another, and have so many octets.
+fn assert_read_from(rt: &impl Abort, alloc: Global, octets: &[u8], table: &Table, length: usize) {
+    let mut place = Table::new(alloc);
+    assert_same(rt, place.read_from(alloc, octets), Some(length));
+    assert!(rt; place == *table);
+}
+
 /// The octets are those of a table with that text, which is written in the octets `again`.
 ///
 /// Who has a table leaves by as few ways as can be: each is a proof that all of it is dropped.
@@ -47,7 +54,8 @@ pub(crate) fn assert_shown(
     again: &str,
 ) -> Result<(), Fail> {
     let octets = octets_of(alloc, digits)?;
-    let (table, _) = read_table(alloc, &octets)?;
+    let (table, length) = read_table(alloc, &octets)?;
+    assert_read_from(rt, alloc, &octets, &table, length);
     assert_printed(rt, alloc, &table, text, again)
 }
 
@@ -119,10 +127,23 @@ static BROKEN_TABLES: [(&str, ValueFaultKind, usize); 9] = [
     ("00000009016141000000017401", PassesItsEnd, 12),
 ];
 
+/// Octets that are no table leave none in the place of another, though it had a pair.
+fn assert_not_read_from(rt: &impl Abort, alloc: Global, octets: &[u8]) {
+    let mut place = Table::new(alloc);
+    assert_same(rt, place.read_from(alloc, ONE_PAIR), Some(8));
+    assert_same(rt, place.pairs().len(), 1);
+    assert_same(rt, place.read_from(alloc, octets), None);
+    assert_same(rt, place.pairs().len(), 0);
+}
+
+/// The octets of a table of one pair.
+static ONE_PAIR: &[u8] = b"\x00\x00\x00\x04\x01at\x01";
+
 #[test]
 fn the_first_fault(rt: HostRuntime) -> Result<(), Fail> {
     for (octets, kind, at) in BROKEN_TABLES.iter().copied() {
         assert_fault(&rt, fault(rt.alloc(), octets)?, at, kind);
+        assert_not_read_from(&rt, rt.alloc(), &octets_of(rt.alloc(), octets)?);
     }
     Ok(())
 }
@@ -132,6 +153,7 @@ fn assert_read(rt: &impl Abort, alloc: Global, octets: &[u8], pairs: usize) -> R
     let (table, length) = read_table(alloc, octets)?;
     assert_same(rt, length, octets.len());
     assert_same(rt, table.pairs().len(), pairs);
+    assert_read_from(rt, alloc, octets, &table, length);
     Ok(())
 }
 
@@ -141,6 +163,7 @@ fn tables_nest_thirty_two_deep(rt: HostRuntime) -> Result<(), Fail> {
     assert_read(&rt, rt.alloc(), &deepest, 1)?;
     let deeper = chain(rt.alloc(), 33)?;
     assert_fault(&rt, read_table(rt.alloc(), &deeper).err(), 223, TooDeep);
+    assert_not_read_from(&rt, rt.alloc(), &deeper);
     Ok(())
 }
 
