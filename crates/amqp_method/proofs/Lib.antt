@@ -17,6 +17,7 @@ pub mod KnownFields
 pub mod LengthLemmas
 pub mod MethodFaults
 pub mod MethodLemmas
+pub mod OneWalk
 pub mod OwningLemmas
 pub mod PlaceLemmas
 pub mod PlainLemmas

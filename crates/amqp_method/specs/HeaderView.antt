@@ -1,5 +1,5 @@
 -- What the code's properties and headers stand for.
-use Rattle.std.specs.Prelude.{ℕ, zero, suc, List, [], ◌∷◌, Option, Some, None}
+use Rattle.std.specs.Prelude.{ℕ, zero, suc, List, [], ◌∷◌, Option, Some, None, replicate}
 use Rattle.amqp_value.specs.Tables.{table_view}
 use Rattle.amqp_value.specs.declared.tables.Table.{Table}
 use Rattle.amqp_method.specs.Arguments.{Argument, octet, long_long, short_string, table}
@@ -31,6 +31,10 @@ properties_view p =
     present short_string p.user_id ∷
     present short_string p.app_id ∷
     present short_string p.cluster_id ∷ []
+
+-- the properties of a header that has a table of headers and no other property, or none at all
+abbrev pub headers_alone : Option Table → List (Option Argument)
+headers_alone headers = None ∷ None ∷ present table_argument headers ∷ replicate 11 None
 
 -- the properties, with this one at a place
 abbrev pub with_property : ℕ → Argument → List (Option Argument) → List (Option Argument)

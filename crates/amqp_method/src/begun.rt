@@ -13,7 +13,9 @@ use crate::header_ref::HeaderRef;
 use crate::kinds::Kind;
 use crate::method_ref::MethodRef;
 use crate::methods::Method;
+use amqp_value::Table;
 use std::alloc::Global;
+use std::mem::{forget, replace};
 
 /// A content of which the method alone came. The place for what follows it is there, and blank.
 #[derive(Drop)]
@@ -42,10 +44,11 @@ impl Begun {
     ghost use Rattle.amqp_method.specs.BegunView.{begun_view};
     ghost use Rattle.amqp_method.specs.CarrierView.{carrier_view};
     ghost use Rattle.amqp_method.specs.HeaderRefView.{lent_header};
-    ghost use Rattle.amqp_method.specs.HeaderView.{header_view};
+    ghost use Rattle.amqp_method.specs.HeaderView.{header_view, headers_alone};
     ghost use Rattle.amqp_method.specs.MethodRefView.{lent_call};
 
-    /// The content that a method begins, with memory of its own. Nothing is checked again, so it fails for memory alone.
+    /// The content that a method begins, with memory of its own. Nothing is checked again, so it fails for memory
+    /// alone.
     ///
     /// Most contents are of two kinds, whose arguments are built in line, so that they go right into the box.
     #[inline(never)]
@@ -122,5 +125,21 @@ impl Begun {
         }
         content.header.body_size = header.body_size();
         Ok(content)
+    }
+
+    /// The content with a header and its table of headers, which is its only property if it has any. It takes no
+    /// memory.
+    #[inline(always)]
+    #[tactic(auto, using(crate::proofs::BegunLemmas::no_property, crate::proofs::BegunLemmas::third_alone))]
+    pub fn with_headers(self, header: HeaderRef<'_>, headers: Option<Table>) -> Box<Content>
+        requires alone { (lent_header header).properties ≡ headers_alone headers }
+        ensures method { carrier_view result.value.method ≡ begun_view self }
+        ensures header { header_view result.value.header ≡ lent_header header.entry }
+        ensures body { result.value.body.items ≡ [] }
+    {
+        let mut content = self.content;
+        forget(replace(&mut content.header.properties.headers, headers));
+        content.header.body_size = header.body_size();
+        content
     }
 }

@@ -9,7 +9,7 @@ use crate::arg_ref::{ArgRef, read_arg};
 use crate::faults::MethodFault;
 use crate::field_octets::Bits;
 use crate::header_checker::check_start;
-use crate::header_start::START_LENGTH;
+use crate::header_start::{START_LENGTH, Start};
 use crate::properties::property_at;
 use amqp_value::TableRef;
 
@@ -50,6 +50,22 @@ impl<'a> HeaderRef<'a> {
             flags: start.flags,
             payload,
         })
+    }
+
+    /// The header of a payload that is known to encode one, with what stands before the properties. Nothing is checked
+    /// again.
+    #[inline(always)]
+    pub(crate) fn of_read(payload: &'a [u8], start: Start) -> HeaderRef<'a>
+        requires flags { start.flags ≡ big_number 2 (drop 12 payload.now) }
+        requires size { size_read (header_at payload.now) ≡ Ok start.body_size }
+        ensures payload { lent_header_payload result ≡ payload.now }
+        ensures read { header_at payload.now ≡ Ok (lent_header result) }
+    {
+        HeaderRef {
+            body_size: start.body_size,
+            flags: start.flags,
+            payload,
+        }
     }
 
     /// The payload, whole.

@@ -1,7 +1,7 @@
 //! Content headers as they lie in their octets: each property alone, and all.
 use crate::headers::properties::{ALONE, text_of};
 use crate::showing::{assert_for, assert_printed, assert_same, assert_same_for};
-use amqp_method::{HeaderRef, check_header, read_header};
+use amqp_method::{HeaderRef, check_header, read_header, read_headers};
 use std::alloc::Global;
 use std::process::Abort;
 use std::test::Fail;
@@ -52,8 +52,24 @@ fn has_bit(header: HeaderRef, bit: u8) -> bool {
     }
 }
 
+/// A header is read in one walk, with its table of headers, exactly when it has no other property.
+fn assert_one_walk(rt: &impl Abort, alloc: Global, header: HeaderRef) -> Result<(), Fail> {
+    let owned = read_header(alloc, header.payload())?;
+    let is_alone = header.flags() == 0 || header.flags() == 0x2000;
+    match read_headers(alloc, header.payload()) {
+        Some((read, headers)) => {
+            assert!(rt; is_alone);
+            assert!(rt; read == header);
+            assert!(rt; headers == owned.properties.headers);
+        }
+        None => assert!(rt; !is_alone),
+    }
+    Ok(())
+}
+
 /// The octets are a header's, and owned it is the one that they are read as.
 fn assert_owned(rt: &impl Abort, alloc: Global, header: HeaderRef) -> Result<(), Fail> {
+    assert_one_walk(rt, alloc, header)?;
     assert_same(rt, check_header(header.payload()), Ok(SIZE));
     assert_same(rt, header.body_size(), SIZE);
     assert!(rt; header.to_owned(alloc)? == read_header(alloc, header.payload())?);
@@ -113,6 +129,26 @@ fn a_header_without_properties(rt: HostRuntime) -> Result<(), Fail> {
     assert_same(&rt, header.flags(), 0);
     for (bit, _) in ALONE {
         assert_for(&rt, !has_bit(header, bit), bit);
+    }
+    Ok(())
+}
+
+/// Headers that can't be read: with octets after the table, without its last octet, with a tag that no value has, of
+/// another class, with an octet after no property.
+static BROKEN: [&str; 5] = [
+    "003c0000f1f2f3f4f5f6f7f8200000000004016b740100",
+    "003c0000f1f2f3f4f5f6f7f8200000000004016b74",
+    "003c0000f1f2f3f4f5f6f7f8200000000004016b7a01",
+    "003d0000f1f2f3f4f5f6f7f8200000000004016b7401",
+    "003c0000f1f2f3f4f5f6f7f8000000",
+];
+
+#[test]
+fn a_broken_header_is_not_read_in_one_walk(rt: HostRuntime) -> Result<(), Fail> {
+    for digits in BROKEN.iter().copied() {
+        let octets = hex::decode(rt.alloc(), digits)?;
+        assert_for(&rt, read_headers(rt.alloc(), &octets).is_none(), digits);
+        assert_for(&rt, HeaderRef::new(&octets).is_err(), digits);
     }
     Ok(())
 }
