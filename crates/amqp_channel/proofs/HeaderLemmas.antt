@@ -42,3 +42,9 @@ pub measured_after : {A : Type 0} {E : Type 0} (answer : Result A E) (header : H
 measured_after (Ok done) header old new due before headed counted same kept =
     counted ∙ sym (ap header_octets headed ∙ header_headed header (gathering_view old) due)
 measured_after (Err fault) header old new due before headed counted same kept = kept ∙ (before ∙ sym (ap header_octets same))
+
+-- the same of a header that is taken without fail
+pub measured_with : (header : HeaderRef) (old new : code.Gathering) → IsHeaderDue (gathering_view old)
+    → gathering_view new ≡ headed_with (header_said header) (gathering_view old) → header_kept new ≡ length_said header
+    → header_kept new ≡ header_octets (gathering_view new)
+measured_with header old new due headed counted = counted ∙ sym (ap header_octets headed ∙ header_headed header (gathering_view old) due)

@@ -13,22 +13,27 @@ ghost use Rattle.amqp_channel.specs.Channels.Used.{body_octets_at, header_octets
 ghost use Rattle.amqp_channel.specs.Channels.Passed.{IsPassed, PassedAreTaken};
 ghost use Rattle.indexmap.specs.IndexMap.{index_map_len};
 ghost use Rattle.std.specs.HashMap.{IsUnchanged, IsUnique};
+ghost use Rattle.amqp_method.specs.HeaderRefView.{lent_header};
+ghost use Rattle.amqp_method.specs.HeaderView.{headers_alone};
 ghost use Rattle.amqp_method.specs.MethodRefView.{lent_call};
-ghost use Rattle.amqp_model.specs.Wire.Readings.{BodyOf, Calls};
-ghost use Rattle.amqp_channel.specs.ReadingView.{header_said, reading_view};
+ghost use Rattle.amqp_model.specs.Wire.Methods.{header_at};
+ghost use Rattle.amqp_model.specs.Wire.Readings.{header_reading, BodyOf, Calls};
+ghost use Rattle.amqp_channel.specs.ReadingView.{header_said, length_said, reading_view};
 ghost use Rattle.amqp_channel.specs.Verdict.VerdictView.{left_by, Drops, Fits, IsPart, Rules};
 
 mod puts;
 
 use crate::amounts::{Amount, Amounts};
 use crate::channel::Channel;
+use crate::deferred::{KEPT_READ, length_if_read};
 use crate::free_numbers::FreeNumbers;
 use crate::reading::Reading;
 use crate::side::Side;
 use crate::site::Site;
 use crate::standing::leaves_channel;
 use crate::verdict::{Told, Verdict};
-use amqp_method::{Content, HeaderRef, MethodRef, OutOfMemory};
+use amqp_method::{Content, HeaderRef, MethodRef, OutOfMemory, read_headers};
+use amqp_value::Table;
 use indexmap::IndexMap;
 use std::alloc::Global;
 
@@ -202,8 +207,8 @@ impl Channels {
 
     /// Where the channel of this number stands, if it is in use.
     ///
-    /// Most frames come on the channel of the frame before. So what stands at its place is looked at first, and the number is
-    /// looked up only where that is another channel, or none.
+    /// Most frames come on the channel of the frame before. So what stands at its place is looked at first, and the
+    /// number is looked up only where that is another channel, or none.
     #[inline(always)]
     fn place_of(&self, number: u16) -> Option<usize>
         requires { 0 < number }
@@ -261,8 +266,8 @@ impl Channels {
         }
     }
 
-    /// Leaves the channel of a frame as its verdict does, where contents are gathered. What is answered is the content that
-    /// the frame makes whole. Out of memory, the channel stays as it was.
+    /// Leaves the channel of a frame as its verdict does, where contents are gathered. What is answered is the content
+    /// that the frame makes whole. Out of memory, the channel stays as it was.
     pub fn apply(
         &mut self,
         alloc: Global,
@@ -298,13 +303,13 @@ impl Channels {
         }
     }
 
-    /// Judges a frame and leaves its channel, where that is done at once and contents are gathered: where the frame owes
-    /// no reply, and changes at most the content under way. The answer is its event, and the content that it makes
-    /// whole. Otherwise nothing is done, and the rules are asked by [`Channels::judge`]. Out of memory, the channel stays
-    /// as it was.
+    /// Judges a frame and leaves its channel, where that is done at once and contents are gathered: where the frame
+    /// owes no reply, and changes at most the content under way. The answer is its event, and the content that it makes
+    /// whole. Otherwise nothing is done, and the rules are asked by [`Channels::judge`]. Out of memory, the channel
+    /// stays as it was.
     ///
-    /// Most frames are done with here, each kind of them in its own way, as by [`Channels::pass_lent`]: a content takes a
-    /// fifth less time so than by way of a verdict.
+    /// Most frames are done with here, each kind of them in its own way, as by [`Channels::pass_lent`]: a content takes
+    /// a fifth less time so than by way of a verdict.
     #[inline(always)]
     pub fn pass(
         &mut self,
@@ -453,6 +458,79 @@ impl Channels {
         }
     }
 
+    /// Judges a header and leaves its channel, as [`Channels::pass`] does with a header after which more of its content
+    /// is due. It is read in one walk, checked and built, so this is for headers with a table of headers alone, or
+    /// nothing. Of any other nothing is done.
+    #[inline(always)]
+    #[tactic(auto, unfolding(amqp_model::specs::Wire::Methods::header_at))]
+    pub fn pass_header<'a>(
+        &mut self,
+        alloc: Global,
+        site: Site,
+        payload: &'a [u8],
+    ) -> Option<HeaderRef<'a>>
+        requires above { 0 < site.number }
+        requires gathers { NoneLent self.old }
+        ensures says { IfSome result (λ header. header_said header ≡ header_reading (header_at payload.now)) }
+        ensures passes { IfSome result (λ header.
+            PassesGathered site (header_said header) self.old Told.Headed None self.new) }
+        ensures stays { result ≡ None → self.new ≡ self.old }
+        ensures gathers { NoneLent self.new }
+    {
+        if site.channel_max < site.number || KEPT_READ < payload.len() {
+            return None;
+        }
+        let place = self.place_of(site.number)?;
+        if !self.used[place].awaits_header() {
+            return None;
+        }
+        let (header, table) = read_headers(alloc, payload)?;
+        let length = length_if_read(header)?;
+        if !self.head_at(place, site, header, length, table) {
+            return None;
+        }
+        Some(header)
+    }
+
+    /// Takes a header with its table of headers and no other property on the channel at this place, where nothing
+    /// changes beside the content and more of it is due; and answers whether that is so. Otherwise nothing is done.
+    #[inline(always)]
+    fn head_at(
+        &mut self,
+        place: usize,
+        site: Site,
+        header: HeaderRef<'_>,
+        length: u32,
+        table: Option<Table>,
+    ) -> bool
+        requires above { 0 < site.number }
+        requires most { site.number ≤ site.channel_max }
+        requires gathers { NoneLent self.old }
+        requires within { place < index_map_len self.old.used }
+        requires holds { HoldsAt self.old.used place site.number }
+        requires written { WritesAt self.old.used place site.number }
+        requires kept { KeptAt self.old.used place site.number }
+        requires put { PutAt self.old.used place site.number }
+        requires others { KeepsOthersAt self.old.used place site.number }
+        requires entries { KeepsEntriesAt self.old.used place site.number }
+        requires counts { length ≡ length_said header }
+        requires alone { (lent_header header).properties ≡ headers_alone table }
+        ensures passes { result ≡ true
+            → PassesGathered site (header_said header.entry) self.old Told.Headed None self.new }
+        ensures stays { result ≡ false → self.new ≡ self.old }
+        ensures gathers { NoneLent self.new }
+    {
+        let Some(Told::Headed) = self.used[place].passes_gathered_header(site, header) else {
+            return false;
+        };
+        let channel = &mut self.used[place];
+        channel.head_with(site.side, header, length, table);
+        let left = channel.amount();
+        self.amounts = self.amounts.after(Amount::none(), left);
+        self.last = place;
+        true
+    }
+
     /// The same for a part of a body.
     #[inline(always)]
     fn pass_body_at(
@@ -517,8 +595,8 @@ impl Channels {
         }
     }
 
-    /// The same on a number that is not in use, where contents are gathered or lent. Few frames come there, so it stands
-    /// apart.
+    /// The same on a number that is not in use, where contents are gathered or lent. Few frames come there, so it
+    /// stands apart.
     #[inline(never)]
     fn apply_unused(&mut self, number: u16, verdict: Verdict) -> Result<(), OutOfMemory>
         requires above { 0 < number }
@@ -532,9 +610,9 @@ impl Channels {
         self.set(number, Channel::begun_by(verdict))
     }
 
-    /// Leaves the channel of a frame as its verdict does, where contents are lent: of one under way is kept how far it has
-    /// come, and the channel is otherwise as `apply` leaves it. Memory is taken for a channel that is opened, and for the
-    /// requests that a server keeps. Out of memory, the channel stays as it was.
+    /// Leaves the channel of a frame as its verdict does, where contents are lent: of one under way is kept how far it
+    /// has come, and the channel is otherwise as `apply` leaves it. Memory is taken for a channel that is opened, and
+    /// for the requests that a server keeps. Out of memory, the channel stays as it was.
     #[inline(always)]
     #[tactic(auto, using(crate::proofs::LentLemmas::alike_same))]
     pub fn apply_lent(
@@ -561,8 +639,8 @@ impl Channels {
         }
     }
 
-    /// The same for the channel at this place. It stands apart, so that most methods, which leave their channel as it was,
-    /// are done with where they are judged.
+    /// The same for the channel at this place. It stands apart, so that most methods, which leave their channel as it
+    /// was, are done with where they are judged.
     #[inline(never)]
     fn apply_lent_at(
         &mut self,

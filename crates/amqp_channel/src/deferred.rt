@@ -1,7 +1,7 @@
 //! A content under way whose header is kept as its octets.
 //!
-//! A table takes up to 40 times its octets in memory, and a peer may begin a content on each channel and leave it there. So of a
-//! long header with a table the octets are kept, and read when the body is whole.
+//! A table takes up to 40 times its octets in memory, and a peer may begin a content on each channel and leave it
+//! there. So of a long header with a table the octets are kept, and read when the body is whole.
 ghost use Rattle.std.specs.Prelude.{◌≡◌, ◌++◌, ◌+◌, [], length, IfOk, IfErr, IfSome, OnOk, OnErr};
 ghost use Rattle.amqp_method.specs.BegunView.{begun_view};
 ghost use Rattle.amqp_method.specs.CarrierView.{carrier_view};
@@ -19,7 +19,7 @@ use amqp_model::bounds::headers_have_one_length;
 use std::alloc::Global;
 
 /// How many octets a header with a table may have that is kept as what was read of it: that takes at most 5 KiB.
-const KEPT_READ: usize = 128;
+pub(crate) const KEPT_READ: usize = 128;
 
 /// A content under way of whose header only the octets are kept.
 #[derive(Drop)]
@@ -31,8 +31,8 @@ pub struct Deferred {
     pub ghost reads: { IsHeaderOf size header.items },
 }
 
-/// How many octets a header has that is kept as what was read of it. Any other is kept as its octets: one that is long and
-/// has a table, or whose length has no room beside a content.
+/// How many octets a header has that is kept as what was read of it. Any other is kept as its octets: one that is long
+/// and has a table, or whose length has no room beside a content.
 #[inline(always)]
 #[tactic(auto, using(crate::proofs::HeaderLemmas::length_measured))]
 pub(crate) fn length_if_read(header: HeaderRef<'_>) -> Option<u32>

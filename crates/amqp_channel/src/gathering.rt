@@ -1,6 +1,8 @@
 //! The content under way on a channel.
 ghost use Rattle.std.specs.Prelude.{◌≡◌, ◌<◌, ◌+◌, ◌++◌, Some, IfOk, OnOk, OnErr};
 ghost use Rattle.amqp_method.specs.BegunView.{begun_view};
+ghost use Rattle.amqp_method.specs.HeaderRefView.{lent_header};
+ghost use Rattle.amqp_method.specs.HeaderView.{headers_alone};
 ghost use Rattle.amqp_model.specs.End.FrameVerdict.{is_gathering};
 ghost use Rattle.amqp_model.specs.Wire.Gathering.{Nothing, HeaderDue};
 ghost use Rattle.amqp_model.specs.Wire.Readings.{BodyOf};
@@ -12,6 +14,7 @@ ghost use Rattle.amqp_channel.specs.Verdict.VerdictView.{continued_with, headed_
 
 use crate::deferred::{Deferred, length_if_read};
 use amqp_method::{Begun, Content, HeaderRef, OutOfMemory};
+use amqp_value::Table;
 use std::alloc::Global;
 use std::mem;
 use std::mem::forget;
@@ -122,8 +125,8 @@ impl Gathering {
         Ok(())
     }
 
-    /// The content whose header was read and that a part of its body makes whole. Nothing is kept of it any more. Out of
-    /// memory, all is as it was.
+    /// The content whose header was read and that a part of its body makes whole. Nothing is kept of it any more. Out
+    /// of memory, all is as it was.
     #[inline(always)]
     pub(crate) fn finish_due(&mut self, octets: &[u8]) -> Result<Box<Content>, OutOfMemory>
         requires read { IsRead self.old }
@@ -150,7 +153,8 @@ impl Gathering {
         }
     }
 
-    /// The content that a part of its body makes whole. Nothing is kept of it any more. Out of memory, all is as it was.
+    /// The content that a part of its body makes whole. Nothing is kept of it any more. Out of memory, all is as it
+    /// was.
     #[inline(always)]
     pub(crate) fn finish(&mut self, octets: &[u8]) -> Result<Box<Content>, OutOfMemory>
         requires { IsWhole (whole_with (gathering_view self.old) octets.now) }
@@ -192,6 +196,31 @@ impl Gathering {
         }
     }
 
+    /// Takes the header that is due, with its table of headers, after which the body is due. It has no other property.
+    #[inline(always)]
+    pub(crate) fn head_with(&mut self, header: HeaderRef<'_>, octets: u32, table: Option<Table>)
+        requires due { IsHeaderDue (gathering_view self.old) }
+        requires counts { octets ≡ length_said header }
+        requires alone { (lent_header header).properties ≡ headers_alone table }
+        ensures headed { gathering_view self.new ≡ headed_with (header_said header.entry) (gathering_view self.old) }
+        ensures header { header_kept self.new ≡ length_said header.entry }
+    {
+        match mem::replace(self, Gathering::Nothing) {
+            Gathering::HeaderDue(begun) => {
+                let content = begun.with_headers(header, table);
+                forget(mem::replace(
+                    self,
+                    Gathering::BodyDue {
+                        header: octets,
+                        content,
+                    },
+                ));
+            }
+            Gathering::Nothing | Gathering::BodyDue { .. } | Gathering::Deferred(_) =>
+                unreachable!(),
+        }
+    }
+
     /// The content that its header makes whole, since its body is empty. Nothing is kept of it any more.
     pub(crate) fn finish_header(
         &mut self,
@@ -219,8 +248,8 @@ impl Gathering {
         }
     }
 
-    /// Keeps a header, after which the body is due: read where the content is, or, if it is long and has a table, as its
-    /// octets.
+    /// Keeps a header, after which the body is due: read where the content is, or, if it is long and has a table, as
+    /// its octets.
     #[inline(always)]
     fn keep_headed(
         &mut self,

@@ -1,7 +1,8 @@
-//! The life of a channel that is Open: what is kept of it, what the rules say of the frames that belong to it, and what these
-//! leave.
+//! The life of a channel that is Open: what is kept of it, what the rules say of the frames that belong to it, and what
+//! these leave.
 ghost use Rattle.std.specs.Prelude.{◌≡◌, ◌≢◌, ◌<◌, ◌≤◌, true, false, not, ℕ, List, length, None, Some, IfOk, IfSome, IsOk, OnOk, OnErr};
 ghost use Rattle.amqp_method.specs.HeaderRefView.{lent_header};
+ghost use Rattle.amqp_method.specs.HeaderView.{headers_alone};
 ghost use Rattle.amqp_method.specs.MethodRefView.{lent_call};
 ghost use Rattle.amqp_model.specs.End.Amounts.{header_octets};
 ghost use Rattle.amqp_model.specs.End.Channels as model;
@@ -17,7 +18,7 @@ ghost use Rattle.amqp_model.specs.Wire.Readings as readings;
 ghost use Rattle.amqp_model.specs.Wire.Readings.{Calls, BodyOf, HeaderOf, kind_of};
 ghost use Rattle.amqp_channel.specs.Contents.ContentView.{content_there, content_view};
 ghost use Rattle.amqp_channel.specs.Contents.GatheringView.{gathering_view, header_kept, IsRead};
-ghost use Rattle.amqp_channel.specs.ReadingView.{header_said, reading_view};
+ghost use Rattle.amqp_channel.specs.ReadingView.{header_said, length_said, reading_view};
 ghost use Rattle.amqp_channel.specs.Roles.{role_of};
 ghost use Rattle.amqp_channel.specs.Verdict.Passing.{IsOfContent, Passes};
 ghost use Rattle.amqp_channel.specs.Verdict.VerdictView.{asked_with, replies_in, told_in, verdict_view, whole_at, whole_of, whole_with, with_content, FitsTold, IsDiscarded, IsFlow, IsHeaderDue, IsWhole, MessageRules, Rules, RulesByState, TellsMessage};
@@ -31,6 +32,7 @@ use crate::standing::Standing;
 use crate::verdict::{Reply, Told, Verdict};
 use crate::words::lent_bit_at;
 use amqp_method::{Begun, Content, HeaderRef, Kind, MethodRef, OutOfMemory};
+use amqp_value::Table;
 use std::alloc::Global;
 use std::mem::{forget, replace};
 
@@ -219,6 +221,15 @@ impl Life {
                 passes_content(site.side, begun.kind(), judge_awaited(site, header))
             }
             Gathering::Nothing | Gathering::BodyDue { .. } | Gathering::Deferred(_) => None,
+        }
+    }
+
+    /// Whether the header of a content is due.
+    #[inline(always)]
+    pub(crate) fn awaits_header(&self) -> bool {
+        match &self.content {
+            Gathering::HeaderDue(_) => true,
+            Gathering::Nothing | Gathering::BodyDue { .. } | Gathering::Deferred(_) => false,
         }
     }
 
@@ -463,6 +474,25 @@ impl Life {
         ensures err { OnErr result (life_view self.new ≡ life_view self.old) }
     {
         self.content.head(alloc, header)
+    }
+
+    /// A header with its table of headers and no other property, after which the body is due.
+    #[inline(always)]
+    #[tactic(auto, using(crate::proofs::HeaderLemmas::measured_with))]
+    pub(crate) fn head_with(
+        &mut self,
+        side: Side,
+        header: HeaderRef<'_>,
+        length: u32,
+        table: Option<Table>,
+    )
+        requires due { IsHeaderDue (life_view self.old).content }
+        requires counts { length ≡ length_said header }
+        requires alone { (lent_header header).properties ≡ headers_alone table }
+        ensures { life_view self.new ≡ told_in (role_of side) (header_said header.entry) Told.Headed
+            (life_view self.old) }
+    {
+        self.content.head_with(header, length, table);
     }
 
     /// The header of a content without a body, which is whole. A client's reply takes its request away.

@@ -1,14 +1,15 @@
-//! Frames that pass a channel: they owe no reply, and change at most the content under way. Most frames do. Each is looked
-//! at first, and what it changes is done by a call for its kind.
+//! Frames that pass a channel: they owe no reply, and change at most the content under way. Most frames do. Each is
+//! looked at first, and what it changes is done by a call for its kind.
 ghost use Rattle.std.specs.Prelude.{◌≡◌, ◌<◌, ◌≤◌, true, false, IfOk, IfSome, None, Some, OnOk, OnErr};
 ghost use Rattle.amqp_method.specs.HeaderRefView.{lent_header};
+ghost use Rattle.amqp_method.specs.HeaderView.{headers_alone};
 ghost use Rattle.amqp_method.specs.MethodRefView.{lent_call};
 ghost use Rattle.amqp_model.specs.Wire.Methods.{carries_content};
 ghost use Rattle.amqp_model.specs.Wire.Gathering.{HeaderDue, Nothing};
 ghost use Rattle.amqp_model.specs.Wire.Readings.{BodyOf, Calls, HeaderOf};
 ghost use Rattle.amqp_channel.specs.Channel.ChannelView.{channel_view, contained, is_lent, IsGathered, IsIdleOpen, IsReadOpen, content_on};
 ghost use Rattle.amqp_channel.specs.Contents.ContentView.{content_view};
-ghost use Rattle.amqp_channel.specs.ReadingView.{header_said, reading_view};
+ghost use Rattle.amqp_channel.specs.ReadingView.{header_said, length_said, reading_view};
 ghost use Rattle.amqp_channel.specs.Verdict.Passing.{Passes};
 ghost use Rattle.amqp_channel.specs.Verdict.VerdictView.{continued_with, headed_with, whole_now, IsHeaderDue, IsWhole};
 
@@ -19,6 +20,7 @@ use crate::side::Side;
 use crate::site::Site;
 use crate::verdict::Told;
 use amqp_method::{Content, HeaderRef, MethodRef, OutOfMemory};
+use amqp_value::Table;
 use std::alloc::Global;
 
 impl Channel {
@@ -82,8 +84,8 @@ impl Channel {
         }
     }
 
-    /// The event of a frame that changes at most how far a content that is lent has come: a method that has nothing to do
-    /// with requests, or a frame of the content under way. Most frames do no more.
+    /// The event of a frame that changes at most how far a content that is lent has come: a method that has nothing to
+    /// do with requests, or a frame of the content under way. Most frames do no more.
     #[inline(always)]
     pub(crate) fn passes(&self, site: Site, reading: Reading<'_>) -> Option<Told>
         requires above { 0 < site.number }
@@ -185,6 +187,47 @@ impl Channel {
             | Channel::Closing
             | Channel::LentHeader(_, _)
             | Channel::LentBody { .. } => unreachable!(),
+        }
+    }
+
+    /// A header that passes, with its table of headers and no other property, after which the body is due.
+    #[inline(always)]
+    pub(crate) fn head_with(
+        &mut self,
+        side: Side,
+        header: HeaderRef<'_>,
+        length: u32,
+        table: Option<Table>,
+    )
+        requires gathers { is_lent self.old ≡ false }
+        requires due { IsHeaderDue (content_on (channel_view self.old)) }
+        requires counts { length ≡ length_said header }
+        requires alone { (lent_header header).properties ≡ headers_alone table }
+        ensures headed { channel_view self.new ≡ contained (headed_with (header_said header.entry)
+            (content_on (channel_view self.old))) (channel_view self.old) }
+        ensures gathers { IsGathered self.new }
+        ensures was { IsGathered self.old }
+    {
+        match self {
+            Channel::Open(life) => life.head_with(side, header, length, table),
+            Channel::Free
+            | Channel::Opening
+            | Channel::Closing
+            | Channel::LentHeader(_, _)
+            | Channel::LentBody { .. } => unreachable!(),
+        }
+    }
+
+    /// Whether the header of a content that is gathered is due.
+    #[inline(always)]
+    pub(crate) fn awaits_header(&self) -> bool {
+        match self {
+            Channel::Open(life) => life.awaits_header(),
+            Channel::Free
+            | Channel::Opening
+            | Channel::Closing
+            | Channel::LentHeader(_, _)
+            | Channel::LentBody { .. } => false,
         }
     }
 

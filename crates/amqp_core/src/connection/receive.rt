@@ -1,5 +1,5 @@
-//! A frame that an end takes: what the rules say of it (`rules`) is carried out. The state changes, the event is made, and
-//! what is owed is put.
+//! A frame that an end takes: what the rules say of it (`rules`) is carried out. The state changes, the event is made,
+//! and what is owed is put.
 ghost use Rattle.std.specs.Prelude.{◌≡◌, ◌<◌, true, false, ℕ, [], map, Some, None, Option, IfOk, IfSome, IsOk, OnErr, OnOk};
 ghost use Rattle.amqp_model.specs.End.Channels.{Channel};
 ghost use Rattle.amqp_model.specs.Wire.Contents as contents;
@@ -9,7 +9,7 @@ ghost use Rattle.amqp_model.specs.Wire.Readings as readings;
 ghost use Rattle.amqp_channel.specs.Channels.ChannelsView.{channels_view};
 ghost use Rattle.amqp_channel.specs.Contents.ContentView.{content_there};
 ghost use Rattle.amqp_channel.specs.Events.PartsView.{parts_there};
-ghost use Rattle.amqp_channel.specs.ReadingView.{reading_view};
+ghost use Rattle.amqp_channel.specs.ReadingView.{header_said, reading_view};
 ghost use Rattle.amqp_channel.specs.Verdict.VerdictView.{verdict_view as channel_verdict, Drops};
 ghost use Rattle.amqp_model.specs.End.Events as events;
 ghost use Rattle.amqp_core.specs.Faults.Answering.{answer_with, ran_out, AnswersFrame};
@@ -42,8 +42,8 @@ use amqp_channel::{
     Agreed, Aligned, CloseCode, EventParts, Passed, Reading, Told, Verdict as ChannelVerdict,
     lent_blocked_reason, lent_reason,
 };
-use amqp_frame::FrameRef;
-use amqp_method::Content;
+use amqp_frame::{FrameKind, FrameRef};
+use amqp_method::{Content, HeaderRef};
 use amqp_outbox::Outbox;
 use std::alloc::Global;
 
@@ -219,13 +219,15 @@ impl Connection {
     ghost use Rattle.amqp_model.specs.Stream.Traces.{IsTaken, noted};
     ghost use Rattle.amqp_core.specs.Traced.AccountView.{note_there};
     ghost use Rattle.amqp_model.specs.Output.Outputs.{after_puts};
-    ghost use Rattle.amqp_model.specs.Wire.Readings.{reading as says};
+    ghost use Rattle.amqp_model.specs.Wire.Methods.{header_at};
+    ghost use Rattle.amqp_model.specs.Wire.Readings.{reading as says, header_reading};
     ghost use Rattle.amqp_outbox.specs.OutboxView.{only};
     ghost use Rattle.amqp_core.specs.Faults.Blamed.{blames_frame, tally_view};
     ghost use Rattle.amqp_core.specs.Connection.Verdicts.{content_of, end_left, ended_if, verdict_here, FitsVerdict, FrameRules, StepsFrom};
     ghost use Rattle.amqp_channel.specs.Channels.Used.{is_closing_at};
     ghost use Rattle.amqp_channel.specs.Verdict.Passing.{IsOfMessage};
     ghost use Rattle.amqp_channel.specs.Verdict.VerdictView.{IsPart};
+    ghost use Rattle.amqp_channel.specs.declared.verdict.Told.TheVariants.{Headed};
     ghost use Rattle.amqp_channel.specs.declared.verdict.Verdict.TheVariants.{Proceeds};
     ghost use Rattle.amqp_model.specs.Stream.Traces.{word_of};
     ghost use Rattle.amqp_model.specs.Wire.Readings.{kind_of};
@@ -452,8 +454,100 @@ impl Connection {
         Ok(Some(told))
     }
 
-    /// Takes a frame that says this, if it passes: it owes no reply, and changes at most the content under way. Otherwise
-    /// nothing is done.
+    /// Takes a header of a channel, read in one walk from its payload, if it passes and more of its content is due.
+    /// Otherwise nothing is done.
+    #[inline(always)]
+    fn pass_header_on<'a>(
+        &mut self,
+        agreed: Agreed,
+        number: u16,
+        payload: &'a [u8],
+    ) -> Option<HeaderRef<'a>>
+        requires above { 0 < number }
+        requires running { self.old.stage ≡ Stage.Running agreed }
+        requires gathers { self.old.settings.lends ≡ false }
+        ensures says { IfSome result (λ header. header_said header ≡ header_reading (header_at payload.now)) }
+        ensures rules { IfSome result (λ header. FrameRules self.old.settings (connection_end self.old) number
+            (header_said header) (OnChannel (Proceeds Headed None))) }
+        ensures left { IfSome result (λ header. connection_end self.new ≡ end_left (role_for self.old.settings) number
+            (header_said header) (OnChannel (Proceeds Headed None)) (connection_end self.old)) }
+        ensures settings { self.new.settings ≡ self.old.settings }
+        ensures stage { self.new.stage ≡ self.old.stage }
+        ensures none { result ≡ None → self.new ≡ self.old }
+    {
+        let site = self.site(number, agreed.channel_max);
+        self.channels.pass_header(self.alloc, site, payload)
+    }
+
+    /// The same, and it is accounted for. It has no event.
+    #[inline(always)]
+    fn pass_header_told<'a>(
+        &mut self,
+        agreed: Agreed,
+        number: u16,
+        payload: &'a [u8],
+        account: &mut Account,
+        heard: &mut Heard,
+    ) -> Option<HeaderRef<'a>>
+        requires above { 0 < number }
+        requires running { self.old.stage ≡ Stage.Running agreed }
+        requires gathers { self.old.settings.lends ≡ false }
+        requires none { account.old.parts ≡ None }
+        ensures says { IfSome result (λ header. header_said header ≡ header_reading (header_at payload.now)) }
+        ensures rules { IfSome result (λ header. FrameRules self.old.settings (connection_end self.old) number
+            (header_said header) (OnChannel (Proceeds Headed None))) }
+        ensures left { IfSome result (λ header. connection_end self.new ≡ end_left (role_for self.old.settings) number
+            (header_said header) (OnChannel (Proceeds Headed None)) (connection_end self.old)) }
+        ensures event { account.new.parts ≡ None }
+        ensures heard { IfSome result (λ header. heard_view heard.new ≡ said_by Running number
+            (header_said header) (OnChannel (Proceeds Headed None)) (heard_view heard.old)) }
+        ensures took { IfSome result (λ header. note_there account.new.took
+            ≡ Some (noted_as IsTaken number (word_of (kind_of (header_said header))))) }
+        ensures owed { IfSome result (λ header. account.new.owed ≡ Owed.Nothing) }
+        ensures octets { account.new.octets ≡ account.old.octets }
+        ensures settings { self.new.settings ≡ self.old.settings }
+        ensures stage { self.new.stage ≡ self.old.stage }
+        ensures none { result ≡ None → self.new ≡ self.old }
+        ensures none_told { result ≡ None → account.new ≡ account.old }
+        ensures none_heard { result ≡ None → heard.new ≡ heard.old }
+    {
+        let header = self.pass_header_on(agreed, number, payload)?;
+        let said = Reading::Header(header);
+        keep_cause(said, ChannelVerdict::Proceeds(Told::Headed, None), heard);
+        account.took = Some(Note::taken(number, said));
+        account.owed = Owed::Nothing;
+        Some(header)
+    }
+
+    /// Takes a header frame so. Nothing is done with any other frame.
+    #[inline(always)]
+    fn pass_header(
+        &mut self,
+        outbox: &Outbox,
+        frame: FrameRef<'_>,
+        account: &mut Account,
+        heard: &mut Heard,
+    ) -> Option<Result<(), CoreFault>>
+        requires gathers { self.old.settings.lends ≡ false }
+        requires staged { outbox.now.staged ≡ [] }
+        requires none { account.old.parts ≡ None }
+        ensures receives { IfSome result (λ answer. Receives self.old outbox.now.output account.old heard.old
+            (lent frame.entry) answer self.new outbox.now account.new heard.new) }
+        ensures faultless { IfSome result (λ answer. code_found answer ≡ None) }
+        ensures none { result ≡ None → self.new ≡ self.old }
+        ensures none_told { result ≡ None → account.new ≡ account.old }
+        ensures none_heard { result ≡ None → heard.new ≡ heard.old }
+    {
+        let FrameKind::Header = frame.kind else {
+            return None;
+        };
+        let agreed = self.agreed_on(frame.channel)?;
+        self.pass_header_told(agreed, frame.channel, frame.payload, account, heard)?;
+        Some(Ok(()))
+    }
+
+    /// Takes a frame that says this, if it passes: it owes no reply, and changes at most the content under way.
+    /// Otherwise nothing is done.
     #[inline(always)]
     fn pass(
         &mut self,
@@ -555,8 +649,8 @@ impl Connection {
     /// Takes a frame. What the end owes is put, and what came of the frame, its event too, is accounted for. Out of
     /// memory, the end fails, and nothing is put.
     ///
-    /// Each kind of frame goes its own way, so that what it says is not put into memory and looked at again. It is called
-    /// in one place, where it is inlined, however large it is.
+    /// Each kind of frame goes its own way, so that what it says is not put into memory and looked at again, and most
+    /// headers are read in one walk. It is called in one place, where it is inlined, however large it is.
     #[inline(always)]
     pub(crate) fn receive(
         &mut self,
@@ -575,6 +669,9 @@ impl Connection {
         ensures tally { tally_view tally.new
             ≡ blames_frame (code_found result) (lent frame.entry) (tally_view tally.old) }
     {
+        if let Some(answer) = self.pass_header(outbox, frame, account, heard) {
+            return answer;
+        }
         let reading = Reading::of(frame);
         match reading {
             Reading::Method(method) => {
