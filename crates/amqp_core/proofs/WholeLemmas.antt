@@ -4,7 +4,6 @@ use Rattle.std.proofs.lemmas.Bool.{true≢false}
 use Rattle.amqp_frame.specs.Frame as frames
 use Rattle.amqp_channel.specs.declared.events.Agreed.{Agreed}
 use Rattle.amqp_model.specs.End.Channels.{Phase, Running, Closed, Failed}
-use Rattle.amqp_model.specs.End.EndVerdict.{takes_octets}
 use Rattle.amqp_model.specs.Lent.Alike.{LentEvent}
 use Rattle.amqp_model.specs.Stream.Pieces.{reads_frames}
 use Rattle.amqp_model.specs.Wire.Notes.{Role, Client, Server}
@@ -42,18 +41,14 @@ pub running_reads : (role : Role) (stage : Stage) (agreed : Agreed) → stage �
     → reads_frames role (phase_at stage) ≡ true
 running_reads role stage agreed is = ap (λ (s : Stage). reads_frames role (phase_at s)) is ∙ running_read role
 
+-- a connection that is Running is neither closed nor failed
 abbrev is_running : Phase → Bool
 is_running Running = true
 is_running phase = false
 
-running_phase : (stage : Stage) (agreed : Agreed) → stage ≡ stages.Running agreed → phase_at stage ≡ Running
-running_phase stage agreed is = ap phase_at is
+pub phase_is : (phase : Phase) → phase ≡ Running → (phase ≢ Closed) × (phase ≢ Failed)
+phase_is phase is =
+    ((λ closed. true≢false (ap is_running (sym is ∙ closed))), (λ failed. true≢false (ap is_running (sym is ∙ failed))))
 
-pub running_takes : (stage : Stage) (agreed : Agreed) → stage ≡ stages.Running agreed → takes_octets (phase_at stage) ≡ true
-running_takes stage agreed is = ap takes_octets (running_phase stage agreed is)
-
--- it is neither closed nor failed
 pub running_is : (stage : Stage) (agreed : Agreed) → stage ≡ stages.Running agreed → (phase_at stage ≢ Closed) × (phase_at stage ≢ Failed)
-running_is stage agreed is =
-    let phase = running_phase stage agreed is in
-    ((λ closed. true≢false (ap is_running (sym phase ∙ closed))), (λ failed. true≢false (ap is_running (sym phase ∙ failed))))
+running_is stage agreed is = phase_is (phase_at stage) (ap phase_at is)

@@ -1,117 +1,61 @@
--- An end that is closed, or has failed, takes nothing. A piece that has octets loses one.
-use Rattle.std.proofs.Common.{◌≢◌, ◌≤◌, length, refl, sym, ap, ◌∙◌}
-use Rattle.std.proofs.lemmas.Bool.{false≢true, true≢false}
-use Rattle.amqp_model.specs.End.Channels.{Failed}
+-- A frame that lies whole in the piece of an end that is Running: some octets are taken, and none past the piece. Without
+-- one the end is as it was, and takes the octets otherwise.
+use Rattle.std.proofs.Common.{◌≡◌, ◌≤◌, false, length, refl, subst, sym, ap, ◌∙◌}
+use Rattle.std.proofs.lemmas.Bool.{true≢false}
 use Rattle.amqp_model.specs.End.EndVerdict.{takes_octets}
-use Rattle.amqp_core.specs.Connection.View.{connection_end}
-use Rattle.amqp_core.specs.End.EndpointView.{endpoint_view, role_at}
+use Rattle.amqp_model.specs.Stream.Endpoint.{after_feed}
 use Rattle.amqp_core.specs.Config.Settings.{config_view}
-use Rattle.amqp_core.proofs.HeardLemmas.{fault_heard, opening_heard}
-use Rattle.amqp_core.proofs.BlameLemmas.{blames_nothing}
-use Rattle.amqp_core.proofs.StreamLemmas.{closed_lent, failed_lent, lent_some, lent_within, step_count, step_some}
-use Rattle.amqp_core.proofs.WholeLemmas.{running_is, running_takes}
+use Rattle.amqp_core.specs.Connection.Stages.{phase_at}
+use Rattle.amqp_core.specs.End.EndpointView.{endpoint_view, role_at}
+use Rattle.amqp_core.specs.Faults.Blamed.{tally_view, Blames}
+use Rattle.amqp_core.specs.Stream.Lending.{IsLent}
+use Rattle.amqp_core.specs.Stream.StepView.{step_seen}
+use Rattle.amqp_core.specs.declared.endpoint.Endpoint.{Endpoint}
+use Rattle.amqp_core.proofs.StreamLemmas.{lent_some, lent_within, step_count, step_some}
+use Rattle.amqp_core.proofs.WholeLemmas.{phase_is}
 use Rattle.amqp_core.proofs.endpoint.Endpoint.advance.Goals as goal
 
-pub returns-then-is_closed-clause-lent : goal.returns-then-is_closed-clause-lent
-returns-then-is_closed-clause-lent c =
-    let old = c.args.self.now in
-    closed_lent (role_at old) (config_view old.connection.settings) (endpoint_view old) c.args.piece.now
-    (c.cut_changes_nothing.ensures.closed (role_at old) (config_view old.connection.settings) (endpoint_view old) c.args.piece.now (c.if-is_closed.ensures.closed refl))
-
-pub returns-then-is_failed-clause-lent : goal.returns-then-is_failed-clause-lent
-returns-then-is_failed-clause-lent c =
-    let old = c.args.self.now in
-    failed_lent (role_at old) (config_view old.connection.settings) (endpoint_view old) c.args.piece.now
-    (c.cut_changes_nothing.ensures.failed (role_at old) (config_view old.connection.settings) (endpoint_view old) c.args.piece.now (c.if-is_failed.ensures.failed refl))
-
-pub returns-then-awaits_header-clause-memory : goal.returns-then-awaits_header-clause-memory
-returns-then-awaits_header-clause-memory c = λ ran. c.if-is_failed.ensures.takes refl (c.if-is_closed.ensures.not refl)
-
-pub returns-clause-memory : goal.returns-clause-memory
-returns-clause-memory c = λ ran. c.if-is_failed.ensures.takes refl (c.if-is_closed.ensures.not refl)
-
-pub returns-then-awaits_header-clause-over : goal.returns-then-awaits_header-clause-over
-returns-then-awaits_header-clause-over c = λ over. absurd (true≢false (sym (c.if-is_failed.ensures.takes refl (c.if-is_closed.ensures.not refl)) ∙ over))
-
-pub returns-clause-over : goal.returns-clause-over
-returns-clause-over c = λ over. absurd (true≢false (sym (c.if-is_failed.ensures.takes refl (c.if-is_closed.ensures.not refl)) ∙ over))
-
-pub returns-then-awaits_header-clause-within : goal.returns-then-awaits_header-clause-within
-returns-then-awaits_header-clause-within c =
-    let old = c.args.self.now in
-    step_count c.hear_lent-answer.result c.hear_lent-answer.new.self.splitter.given (λ n. n ≤ length c.args.piece.now)
-    (lent_within (role_at old) (config_view old.connection.settings) _ (endpoint_view old) c.args.piece.now _ _ (λ n. n ≤ length c.args.piece.now) c.hear_lent-answer.ensures.lent
-    (c.cut_changes_nothing.ensures.within (role_at old) (config_view old.connection.settings) (endpoint_view old) c.args.piece.now))
-
-pub returns-clause-within : goal.returns-clause-within
-returns-clause-within c =
-    let old = c.args.self.now in
-    step_count c.read_any-answer.result c.read_any-answer.new.self.splitter.given (λ n. n ≤ length c.args.piece.now)
-    (lent_within (role_at old) (config_view old.connection.settings) _ (endpoint_view old) c.args.piece.now _ _ (λ n. n ≤ length c.args.piece.now) c.read_any-answer.ensures.lent
-    (c.cut_changes_nothing.ensures.within (role_at old) (config_view old.connection.settings) (endpoint_view old) c.args.piece.now))
-
-pub returns-then-awaits_header-clause-progress : goal.returns-then-awaits_header-clause-progress
-returns-then-awaits_header-clause-progress c =
-    let old = c.args.self.now in
-    let running : (connection_end old.connection).phase ≢ Failed = λ failed. true≢false (sym (c.if-is_failed.ensures.takes refl (c.if-is_closed.ensures.not refl)) ∙ ap takes_octets failed) in
-    step_some c.hear_lent-answer.result c.hear_lent-answer.new.self.splitter.given c.args.piece.now
-    (lent_some (role_at old) (config_view old.connection.settings) _ (endpoint_view old) c.args.piece.now _ _ c.hear_lent-answer.ensures.lent
-    (c.cut_changes_nothing.ensures.progress (role_at old) (config_view old.connection.settings) (endpoint_view old) c.args.piece.now (c.if-is_closed.ensures.not refl) running))
-
-pub returns-clause-progress : goal.returns-clause-progress
-returns-clause-progress c =
-    let old = c.args.self.now in
-    let running : (connection_end old.connection).phase ≢ Failed = λ failed. true≢false (sym (c.if-is_failed.ensures.takes refl (c.if-is_closed.ensures.not refl)) ∙ ap takes_octets failed) in
-    step_some c.read_any-answer.result c.read_any-answer.new.self.splitter.given c.args.piece.now
-    (lent_some (role_at old) (config_view old.connection.settings) _ (endpoint_view old) c.args.piece.now _ _ c.read_any-answer.ensures.lent
-    (c.cut_changes_nothing.ensures.progress (role_at old) (config_view old.connection.settings) (endpoint_view old) c.args.piece.now (c.if-is_closed.ensures.not refl) running))
-
--- On a connection that is Running.
-
 pub returns-in-Some-clause-memory : goal.returns-in-Some-clause-memory
-returns-in-Some-clause-memory c = λ ran. running_takes c.args.self.now.connection.stage c.in-Some.agreed c.in-Some.ensures.running
+returns-in-Some-clause-memory c = λ ran. ap takes_octets c.in-Some.ensures.running
 
 pub returns-in-Some-clause-over : goal.returns-in-Some-clause-over
-returns-in-Some-clause-over c = λ over. absurd (true≢false (sym (running_takes c.args.self.now.connection.stage c.in-Some.agreed c.in-Some.ensures.running) ∙ over))
+returns-in-Some-clause-over c = λ over. absurd (true≢false (sym (ap takes_octets c.in-Some.ensures.running) ∙ over))
 
 pub returns-in-Some-clause-within : goal.returns-in-Some-clause-within
 returns-in-Some-clause-within c =
     let old = c.args.self.now in
-    step_count c.read_lent.result c.read_lent.new.self.splitter.given (λ n. n ≤ length c.args.piece.now)
-    (lent_within (role_at old) (config_view old.connection.settings) _ (endpoint_view old) c.args.piece.now _ _ (λ n. n ≤ length c.args.piece.now) c.read_lent.ensures.lent
+    step_count c.in-Some.answer c.read_lent.new.self.splitter.given (λ n. n ≤ length c.args.piece.now)
+    (lent_within (role_at old) (config_view old.connection.settings) _ (endpoint_view old) c.args.piece.now _ _ (λ n. n ≤ length c.args.piece.now) c.in-Some.ensures.lent
     (c.cut_changes_nothing.ensures.within (role_at old) (config_view old.connection.settings) (endpoint_view old) c.args.piece.now))
 
 pub returns-in-Some-clause-progress : goal.returns-in-Some-clause-progress
 returns-in-Some-clause-progress c =
     let old = c.args.self.now in
-    let stands = running_is old.connection.stage c.in-Some.agreed c.in-Some.ensures.running in
-    step_some c.read_lent.result c.read_lent.new.self.splitter.given c.args.piece.now
-    (lent_some (role_at old) (config_view old.connection.settings) _ (endpoint_view old) c.args.piece.now _ _ c.read_lent.ensures.lent
+    let stands = phase_is (phase_at old.connection.stage) c.in-Some.ensures.running in
+    step_some c.in-Some.answer c.read_lent.new.self.splitter.given c.args.piece.now
+    (lent_some (role_at old) (config_view old.connection.settings) _ (endpoint_view old) c.args.piece.now _ _ c.in-Some.ensures.lent
     (c.cut_changes_nothing.ensures.progress (role_at old) (config_view old.connection.settings) (endpoint_view old) c.args.piece.now stands.0 stands.1))
 
--- What is counted and blamed.
+-- Where no frame lies so.
 
-pub returns-then-is_closed-clause-tally : goal.returns-then-is_closed-clause-tally
-returns-then-is_closed-clause-tally c =
-    let old = c.args.self.now in
-    blames_nothing (role_at old) _ (endpoint_view old) c.args.piece.now _ _ refl (λ takes ran. false≢true (sym (ap takes_octets (c.if-is_closed.ensures.closed refl)) ∙ takes))
+pub returns-clause-lent : goal.returns-clause-lent
+returns-clause-lent c =
+    let piece = c.args.piece.now in
+    let after = c.advance_apart-answer in
+    subst (λ (s : Endpoint). IsLent (role_at s) (config_view s.connection.settings) (step_seen after.result after.new.self.splitter.given) (endpoint_view s) piece
+    (after_feed (role_at s) (config_view s.connection.settings) (endpoint_view s) piece) (endpoint_view after.new.self))
+    (c.in_default.ensures.none refl) after.ensures.lent
 
-pub returns-then-is_failed-clause-tally : goal.returns-then-is_failed-clause-tally
-returns-then-is_failed-clause-tally c =
-    let old = c.args.self.now in
-    blames_nothing (role_at old) _ (endpoint_view old) c.args.piece.now _ _ refl (λ takes ran. false≢true (sym (ap takes_octets (c.if-is_failed.ensures.failed refl)) ∙ takes))
+pub returns-clause-over : goal.returns-clause-over
+returns-clause-over c =
+    let after = c.advance_apart-answer in
+    subst (λ (s : Endpoint). takes_octets (phase_at s.connection.stage) ≡ false → endpoint_view after.new.self ≡ endpoint_view s)
+    (c.in_default.ensures.none refl) after.ensures.over
 
-pub returns-then-is_closed-clause-heard : goal.returns-then-is_closed-clause-heard
-returns-then-is_closed-clause-heard c =
-    let old = c.args.self.now in
-    fault_heard (role_at old) (config_view old.connection.settings) _ (endpoint_view old) c.args.piece.now _ _
-
-pub returns-then-is_failed-clause-heard : goal.returns-then-is_failed-clause-heard
-returns-then-is_failed-clause-heard c =
-    let old = c.args.self.now in
-    fault_heard (role_at old) (config_view old.connection.settings) _ (endpoint_view old) c.args.piece.now _ _
-
-pub returns-then-awaits_header-clause-heard : goal.returns-then-awaits_header-clause-heard
-returns-then-awaits_header-clause-heard c =
-    let old = c.args.self.now in
-    opening_heard (role_at old) (config_view old.connection.settings) _ (endpoint_view old) c.args.piece.now _ _ (sym c.awaits_header.ensures ∙ c.if-awaits_header.true)
+pub returns-clause-tally : goal.returns-clause-tally
+returns-clause-tally c =
+    let piece = c.args.piece.now in
+    let after = c.advance_apart-answer in
+    subst (λ (s : Endpoint). Blames (role_at s) after.result (endpoint_view s) piece
+    (after_feed (role_at s) (config_view s.connection.settings) (endpoint_view s) piece) (tally_view s.tally) (tally_view after.new.self.tally))
+    (c.in_default.ensures.none refl) after.ensures.tally

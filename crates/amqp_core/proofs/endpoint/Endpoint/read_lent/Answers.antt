@@ -11,12 +11,10 @@ use Rattle.amqp_model.specs.Stream.Pieces.{reads_frames}
 use Rattle.amqp_model.specs.Wire.Readings.{reading}
 use Rattle.amqp_core.specs.Connection.Stages.{phase_at}
 use Rattle.amqp_core.specs.Faults.Answering.{ran_out}
-use Rattle.amqp_core.specs.Faults.Blamed.{tally_view, Blames}
 use Rattle.amqp_core.specs.Connection.View.{connection_end}
 use Rattle.amqp_core.specs.End.EndpointView.{endpoint_view, role_at, unfinished_of}
 use Rattle.amqp_core.specs.Stream.Lending.{IsLent, LendsOf, LentSeen}
 use Rattle.amqp_core.specs.Config.Settings.{config_view}
-use Rattle.amqp_core.specs.Stream.StepView.{step_seen}
 use Rattle.amqp_core.specs.declared.faults.CoreFault.{CoreFault}
 use Rattle.amqp_core.proofs.AccountLemmas.{whole_of}
 use Rattle.amqp_core.proofs.BlameLemmas.{blames_of_frame}
@@ -27,54 +25,24 @@ use Rattle.amqp_core.proofs.StreamLemmas.{frame_lent, frame_sound, frame_stands,
 use Rattle.amqp_core.proofs.WholeLemmas.{if_all, running_reads, step_is}
 use Rattle.amqp_core.proofs.endpoint.Endpoint.read_lent.Goals as goal
 
-pub read_any-answer-requires-clause-reads : goal.read_any-answer-requires-clause-reads
-read_any-answer-requires-clause-reads c =
-    let old = c.args.self.now in
-    running_reads (role_at old) old.connection.stage c.args.agreed c.requires.running
-
--- Otherwise nothing was taken yet.
-
-pub returns-in_default-clause-lent : goal.returns-in_default-clause-lent
-returns-in_default-clause-lent c =
-    let old = c.args.self.now in
-    let role = role_at old in
-    let config = config_view old.connection.settings in
-    let piece = c.args.piece.now in
-    let new = c.read_any-answer.new.self in
-    subst (λ (s : Stream). IsLent role config (step_seen c.read_any-answer.result new.splitter.given) (endpoint_view (record old { splitter = s })) piece
-    (after_feed role config (endpoint_view (record old { splitter = s })) piece) (endpoint_view new))
-    c.in_default.ensures.stays c.read_any-answer.ensures.lent
-
-pub returns-in_default-clause-tally : goal.returns-in_default-clause-tally
-returns-in_default-clause-tally c =
-    let old = c.args.self.now in
-    let role = role_at old in
-    let config = config_view old.connection.settings in
-    let piece = c.args.piece.now in
-    subst (λ (s : Stream). Blames role c.read_any-answer.result (endpoint_view (record old { splitter = s })) piece
-    (after_feed role config (endpoint_view (record old { splitter = s })) piece) (tally_view old.tally) (tally_view c.read_any-answer.new.self.tally))
-    c.in_default.ensures.stays c.read_any-answer.ensures.tally
-
--- A frame was taken.
-
 pub returns-clause-lent : goal.returns-clause-lent
 returns-clause-lent c =
     let old = c.args.self.now in
     let role = role_at old in
     let config = config_view old.connection.settings in
     let piece = c.args.piece.now in
-    let frame = lent c.in-Some.frame in
+    let frame = lent c.in_ok-frame.frame in
     let octets = frame_length frame in
     let said = c.take_frame-answer.result in
-    let whole = c.in-Some.ensures.whole in
-    let running : reads_frames role (phase_at old.connection.stage) ≡ true = running_reads role old.connection.stage c.args.agreed c.requires.running in
+    let whole = c.in_ok-frame.ensures.whole in
+    let running : reads_frames role (phase_at old.connection.stage) ≡ true = running_reads role old.connection.stage c.in_ok-agreed.agreed c.in_ok-agreed.ensures.running in
     let r = reads role (connection_end old.connection).phase running in
     let none : old.heard ≡ 0 = c.requires.sound.fields.opened r.opened in
     let by = fed_by role (connection_end old.connection) old.heard old.splitter old.outbox.output piece running c.requires.sound.fields c.requires.sound.holds (λ i. omega (arith, c.type_inv.piece i)) in
     let completes : Completes old.splitter (take octets piece) frame = whole.frame in
     let law = c.pieces_are_split.ensures.frame role config (endpoint_view old) old.splitter piece octets frame in
     let left = c.take_frame-answer.new.self in
-    let after : left.splitter ≡ after_taking old.splitter piece octets (Some (Piece c.in-Some.frame)) = c.take_frame-answer.ensures.splitter ∙ whole.after in
+    let after : left.splitter ≡ after_taking old.splitter piece octets (Some (Piece c.in_ok-frame.frame)) = c.take_frame-answer.ensures.splitter ∙ whole.after in
     let still : left.heard ≡ 0 = c.take_frame-answer.ensures.opening ∙ none in
     let pending : c.tune.new.splitter.pending ≡ [] = ap (λ (s : Stream). s.pending) c.tune.ensures ∙ ap (λ (s : Stream). s.pending) after in
     let empty = none_unfinished left.heard c.tune.new.splitter.pending still pending in
@@ -95,18 +63,18 @@ returns-clause-sound c =
     let role = role_at old in
     let config = config_view old.connection.settings in
     let piece = c.args.piece.now in
-    let frame = lent c.in-Some.frame in
+    let frame = lent c.in_ok-frame.frame in
     let octets = frame_length frame in
     let said = c.take_frame-answer.result in
-    let whole = c.in-Some.ensures.whole in
-    let running : reads_frames role (phase_at old.connection.stage) ≡ true = running_reads role old.connection.stage c.args.agreed c.requires.running in
+    let whole = c.in_ok-frame.ensures.whole in
+    let running : reads_frames role (phase_at old.connection.stage) ≡ true = running_reads role old.connection.stage c.in_ok-agreed.agreed c.in_ok-agreed.ensures.running in
     let r = reads role (connection_end old.connection).phase running in
     let none : old.heard ≡ 0 = c.requires.sound.fields.opened r.opened in
     let by = fed_by role (connection_end old.connection) old.heard old.splitter old.outbox.output piece running c.requires.sound.fields c.requires.sound.holds (λ i. omega (arith, c.type_inv.piece i)) in
     let completes : Completes old.splitter (take octets piece) frame = whole.frame in
     let law = c.pieces_are_split.ensures.frame role config (endpoint_view old) old.splitter piece octets frame in
     let left = c.take_frame-answer.new.self in
-    let after : left.splitter ≡ after_taking old.splitter piece octets (Some (Piece c.in-Some.frame)) = c.take_frame-answer.ensures.splitter ∙ whole.after in
+    let after : left.splitter ≡ after_taking old.splitter piece octets (Some (Piece c.in_ok-frame.frame)) = c.take_frame-answer.ensures.splitter ∙ whole.after in
     let still : left.heard ≡ 0 = c.take_frame-answer.ensures.opening ∙ none in
     let pending : c.tune.new.splitter.pending ≡ [] = ap (λ (s : Stream). s.pending) c.tune.ensures ∙ ap (λ (s : Stream). s.pending) after in
     let empty = none_unfinished left.heard c.tune.new.splitter.pending still pending in
@@ -122,18 +90,15 @@ returns-clause-in_place c = λ drops.
     let old = c.args.self.now in
     let role = role_at old in
     let piece = c.args.piece.now in
-    let frame = lent c.in-Some.frame in
+    let frame = lent c.in_ok-frame.frame in
     let octets = frame_length frame in
-    let whole = c.in-Some.ensures.whole in
+    let whole = c.in_ok-frame.ensures.whole in
     let completes : Completes old.splitter (take octets piece) frame = whole.frame in
     let starts = none_pending role (connection_end old.connection) old.heard old.splitter old.outbox.output piece c.requires.sound.fields drops in
     c.take_frame-answer.ensures.receives.alone (given_dropped role (endpoint_view old) old.splitter piece octets frame c.one_frame_at_start.ensures drops starts completes)
 
 pub take_frame-answer-requires-clause-lends : goal.take_frame-answer-requires-clause-lends
 take_frame-answer-requires-clause-lends c = c.requires.lends
-
-pub take_frame-answer-requires-clause-running : goal.take_frame-answer-requires-clause-running
-take_frame-answer-requires-clause-running c = c.requires.running
 
 pub take_frame-answer-requires-clause-staged : goal.take_frame-answer-requires-clause-staged
 take_frame-answer-requires-clause-staged c = c.requires.sound.staged
@@ -143,9 +108,9 @@ tune-requires-clause-fits c =
     let old = c.args.self.now in
     let role = role_at old in
     let config = config_view old.connection.settings in
-    let frame = lent c.in-Some.frame in
+    let frame = lent c.in_ok-frame.frame in
     let said = c.take_frame-answer.result in
-    let running : reads_frames role (phase_at old.connection.stage) ≡ true = running_reads role old.connection.stage c.args.agreed c.requires.running in
+    let running : reads_frames role (phase_at old.connection.stage) ≡ true = running_reads role old.connection.stage c.in_ok-agreed.agreed c.in_ok-agreed.ensures.running in
     let r = reads role (connection_end old.connection).phase running in
     let next = left_by_frame role config said (connection_end old.connection) frame in
     let left = connection_end c.take_frame-answer.new.self.connection in
@@ -154,7 +119,7 @@ tune-requires-clause-fits c =
 
 pub tune-requires-clause-pending : goal.tune-requires-clause-pending
 tune-requires-clause-pending c =
-    ap (λ (s : Stream). s.pending) (c.take_frame-answer.ensures.splitter ∙ c.in-Some.ensures.whole.after)
+    ap (λ (s : Stream). s.pending) (c.take_frame-answer.ensures.splitter ∙ c.in_ok-frame.ensures.whole.after)
 
 pub returns-clause-tally : goal.returns-clause-tally
 returns-clause-tally c =
@@ -162,11 +127,11 @@ returns-clause-tally c =
     let role = role_at old in
     let config = config_view old.connection.settings in
     let piece = c.args.piece.now in
-    let frame = lent c.in-Some.frame in
+    let frame = lent c.in_ok-frame.frame in
     let octets = frame_length frame in
     let said = c.take_frame-answer.result in
-    let whole = c.in-Some.ensures.whole in
-    let running : reads_frames role (phase_at old.connection.stage) ≡ true = running_reads role old.connection.stage c.args.agreed c.requires.running in
+    let whole = c.in_ok-frame.ensures.whole in
+    let running : reads_frames role (phase_at old.connection.stage) ≡ true = running_reads role old.connection.stage c.in_ok-agreed.agreed c.in_ok-agreed.ensures.running in
     let by = fed_by role (connection_end old.connection) old.heard old.splitter old.outbox.output piece running c.requires.sound.fields c.requires.sound.holds (λ i. omega (arith, c.type_inv.piece i)) in
     let completes : Completes old.splitter (take octets piece) frame = whole.frame in
     let law = c.pieces_are_split.ensures.frame role config (endpoint_view old) old.splitter piece octets frame in
@@ -180,11 +145,11 @@ returns-clause-heard c =
     let role = role_at old in
     let config = config_view old.connection.settings in
     let piece = c.args.piece.now in
-    let frame = lent c.in-Some.frame in
+    let frame = lent c.in_ok-frame.frame in
     let octets = frame_length frame in
     let said = c.take_frame-answer.result in
-    let whole = c.in-Some.ensures.whole in
-    let running : reads_frames role (phase_at old.connection.stage) ≡ true = running_reads role old.connection.stage c.args.agreed c.requires.running in
+    let whole = c.in_ok-frame.ensures.whole in
+    let running : reads_frames role (phase_at old.connection.stage) ≡ true = running_reads role old.connection.stage c.in_ok-agreed.agreed c.in_ok-agreed.ensures.running in
     let by = fed_by role (connection_end old.connection) old.heard old.splitter old.outbox.output piece running c.requires.sound.fields c.requires.sound.holds (λ i. omega (arith, c.type_inv.piece i)) in
     let completes : Completes old.splitter (take octets piece) frame = whole.frame in
     let law = c.pieces_are_split.ensures.frame role config (endpoint_view old) old.splitter piece octets frame in

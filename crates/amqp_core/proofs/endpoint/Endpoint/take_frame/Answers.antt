@@ -5,7 +5,7 @@ use Rattle.amqp_core.specs.Connection.Receiving.{lent_by, ReceivesLent}
 use Rattle.amqp_core.specs.Stream.StepView.{came_lent}
 use Rattle.amqp_core.specs.declared.endpoint.Endpoint.{Endpoint}
 use Rattle.amqp_core.specs.declared.heard.Heard.{Heard}
-use Rattle.amqp_core.proofs.endpoint.Endpoint.take_reading.Goals as goal
+use Rattle.amqp_core.proofs.endpoint.Endpoint.take_frame.Goals as goal
 
 pub returns-clause-receives : goal.returns-clause-receives
 returns-clause-receives c =
@@ -13,7 +13,7 @@ returns-clause-receives c =
     let after = c.take_lent-answer in
     subst (λ (s : Endpoint). ReceivesLent s.connection s.outbox.output c.args.heard.now frame after.result after.new.self after.new.outbox after.new.heard)
     (c.in_default.ensures.none refl)
-    (subst (λ (h : Heard). ReceivesLent c.pass_whole.new.self.connection c.pass_whole.new.self.outbox.output h frame after.result after.new.self after.new.outbox after.new.heard)
+    (subst (λ (h : Heard). ReceivesLent c.pass_by_kind.new.self.connection c.pass_by_kind.new.self.outbox.output h frame after.result after.new.self after.new.outbox after.new.heard)
     (c.in_default.ensures.none_heard refl) after.ensures.receives)
 
 pub returns-clause-told : goal.returns-clause-told
