@@ -71,7 +71,11 @@ pub fn ask_one<R: Role>(
     ensures { AsksOne kept.old given.now result channel.new kept.new }
 {
     match own_ask(alloc, given) {
-        Ok(made) => put_ask(kept, &made, channel),
+        Ok(made) => {
+            let answer = put_ask(kept, &made, channel);
+            drop(made);
+            answer
+        }
         Err(fault) => fault.number(),
     }
 }

@@ -68,7 +68,11 @@ fn begin_call<R: Role>(
     ensures { BeginsCall kept.old content.old channel (method_view method.now) header.now result kept.new content.new }
 {
     match own_header(alloc, header) {
-        Ok(made) => begin(kept, content, channel, method, &made),
+        Ok(made) => {
+            let answer = begin(kept, content, channel, method, &made);
+            drop(made);
+            answer
+        }
         Err(fault) => fault.number(),
     }
 }

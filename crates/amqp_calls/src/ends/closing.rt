@@ -77,7 +77,11 @@ pub fn close_one<R: Role>(
     ensures { ClosesKept kept.old given.now result kept.new }
 {
     match own_close(alloc, given) {
-        Ok(close) => close_kept(kept, &close),
+        Ok(close) => {
+            let answer = close_kept(kept, &close);
+            drop(close);
+            answer
+        }
         Err(fault) => fault.number(),
     }
 }

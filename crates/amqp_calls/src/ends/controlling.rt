@@ -84,7 +84,11 @@ pub fn control_one<R: Role>(
     ensures { ControlsKept kept.old given.now result kept.new }
 {
     match own_decision(alloc, given) {
-        Ok(decision) => decide(kept, &decision),
+        Ok(decision) => {
+            let answer = decide(kept, &decision);
+            drop(decision);
+            answer
+        }
         Err(fault) => fault.number(),
     }
 }

@@ -20,7 +20,9 @@ fn send_alone<R: Role>(kept: &mut Kept<StreamEnd<R>>, channel: u16, method: Meth
     ensures { SentKept kept.old channel (letter_alone (method_view method)) result kept.new }
 {
     let message = Message::plain(method);
-    asked(kept.end.send(channel, &message))
+    let answer = asked(kept.end.send(channel, &message));
+    drop(message);
+    answer
 }
 
 /// Sends a method with its content. The body is copied into the output alone.
@@ -69,7 +71,11 @@ fn send_content<R: Role>(
     ensures { SendsCall kept.old channel (method_view method.now) header.now body.now result kept.new }
 {
     match own_header(alloc, header) {
-        Ok(made) => send_sized(kept, channel, method, &made, body),
+        Ok(made) => {
+            let answer = send_sized(kept, channel, method, &made, body);
+            drop(made);
+            answer
+        }
         Err(fault) => fault.number(),
     }
 }

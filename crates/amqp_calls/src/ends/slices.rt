@@ -119,7 +119,11 @@ fn lend_call<'a, R: Role>(
         pieces.new kept.new }
 {
     match own_header(alloc, header) {
-        Ok(made) => lend_sized(kept, octets, channel, method, &made, body, pieces, count),
+        Ok(made) => {
+            let answer = lend_sized(kept, octets, channel, method, &made, body, pieces, count);
+            drop(made);
+            answer
+        }
         Err(fault) => fault.number(),
     }
 }

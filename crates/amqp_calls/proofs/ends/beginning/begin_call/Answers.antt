@@ -4,7 +4,7 @@ use Rattle.amqp_calls.specs.BegunContents.BeginsCall.{headed, unread}
 use Rattle.amqp_calls.proofs.ends.beginning.begin_call.Goals as goal
 
 pub returns-in-Ok : goal.returns-in-Ok
-returns-in-Ok g c = headed (header_view c.in-Ok.made) c.in-Ok.ensures.ok c.begin.ensures
+returns-in-Ok g c = headed (header_view c.in-Ok.made) c.in-Ok.ensures.ok c.begin-answer.ensures
 
 pub returns-in-Err : goal.returns-in-Err
 returns-in-Err g c = unread c.in-Err.fault c.in-Err.ensures.err c.number.ensures refl refl

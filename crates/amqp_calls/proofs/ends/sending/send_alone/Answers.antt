@@ -14,6 +14,6 @@ returns g c =
     record {
       answer = c.send.result;
       asked = subst (λ letter. StreamAsked old (Send c.args.channel (message_of letter)) c.send.result new) c.plain-message.ensures sends;
-      told = c.asked.ensures;
+      told = c.asked-answer.ensures;
       gathering = refl;
     }

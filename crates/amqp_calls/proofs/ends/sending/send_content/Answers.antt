@@ -8,7 +8,7 @@ use Rattle.amqp_calls.proofs.ends.sending.send_content.Goals as goal
 pub returns-in-Ok : goal.returns-in-Ok
 returns-in-Ok g c =
     of_sized c.args.kept.now c.args.channel (method_view c.args.method.now) (header_view c.in-Ok.made) c.args.header.now c.args.body.now
-    c.send_sized.result c.send_sized.new.kept c.requires c.in-Ok.ensures.ok c.send_sized.ensures
+    c.send_sized-answer.result c.send_sized-answer.new.kept c.requires c.in-Ok.ensures.ok c.send_sized-answer.ensures
 
 pub returns-in-Err : goal.returns-in-Err
 returns-in-Err g c =
