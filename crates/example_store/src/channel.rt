@@ -112,22 +112,24 @@ impl Channel {
 
     /// The header of the content came.
     pub fn head(&mut self, header: HeaderRef<'_>) -> Result<(), OutOfMemory> {
-        if let Some(content) = &mut self.coming
-            && let Some(content) = Rc::get_mut(content)
-        {
-            content.head(self.alloc, header)?;
+        let alloc = self.alloc;
+        match self.growing() {
+            Some(content) => content.head(alloc, header),
+            None => Ok(()),
         }
-        Ok(())
     }
 
     /// A part of its body came.
     pub fn add(&mut self, part: &[u8]) -> Result<(), AllocError> {
-        if let Some(content) = &mut self.coming
-            && let Some(content) = Rc::get_mut(content)
-        {
-            content.add(part)?;
+        match self.growing() {
+            Some(content) => content.add(part),
+            None => Ok(()),
         }
-        Ok(())
+    }
+
+    /// The content that is coming. No queue has it yet, so that it may grow.
+    fn growing(&mut self) -> Option<&mut Content> {
+        Rc::get_mut(self.coming.as_mut()?)
     }
 
     pub fn consumer_with(&self, tag: &[u8]) -> Option<u64> {
@@ -160,7 +162,7 @@ impl Channel {
                 consumer.credit.spend();
             }
         }
-        self.unacked.insert(tag, delivery)?;
+        drop(self.unacked.insert(tag, delivery)?);
         Ok(())
     }
 

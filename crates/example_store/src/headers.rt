@@ -10,17 +10,22 @@ pub fn headers_match(
     args: &Table,
     headers: Option<&Table>,
 ) -> Result<bool, AllocError> {
+    let is_any = is_any(args);
     let mut tests = Vec::new(alloc);
     for (name, wanted) in args.pairs() {
         if !name.as_bytes().starts_with(b"x-") {
             tests.push(is_met(wanted, value_of(headers, name)))?;
         }
     }
-    let is_any = match args.get(b"x-match") {
+    Ok(tests_suffice(is_any, &tests))
+}
+
+/// Whether one of the headers is enough.
+fn is_any(args: &Table) -> bool {
+    match args.get(b"x-match") {
         Some(x_match) => x_match.as_bytes() == Some(b"any".as_slice()),
         None => false,
-    };
-    Ok(tests_suffice(is_any, &tests))
+    }
 }
 
 fn value_of<'a>(headers: Option<&'a Table>, name: &ShortStr) -> Option<&'a Value> {

@@ -196,7 +196,7 @@ impl Messages {
     {
         let place = self.next;
         self.next = place.checked_add(1).ok_or(AllocError)?;
-        self.ready.insert(place, content)?;
+        drop(self.ready.insert(place, content)?);
         Ok(())
     }
 
@@ -213,7 +213,7 @@ impl Messages {
     pub fn remove(&mut self, place: u64)
         ensures { Readies self.old self.new place false }
     {
-        self.ready.remove(&place);
+        drop(self.ready.remove(&place));
         self.unsent = self.unsent.max(place.saturating_add(1));
     }
 
@@ -222,7 +222,7 @@ impl Messages {
         ensures { OnOk result (place < self.old.next → Readies self.old self.new place true) }
     {
         if place < self.next {
-            self.ready.insert(place, content)?;
+            drop(self.ready.insert(place, content)?);
         }
         Ok(())
     }

@@ -28,10 +28,12 @@ impl Users {
             let (name, password) = parted(login, 0)?;
             return Some(self.has(name, password));
         }
-        let Some(table) = table_of(alloc, start.response) else {
-            return None;
-        };
-        match (octets_at(&table, b"LOGIN"), octets_at(&table, b"PASSWORD")) {
+        let table = table_of(alloc, start.response)?;
+        self.allow_amqplain(&table)
+    }
+
+    fn allow_amqplain(&self, login: &Table) -> Option<bool> {
+        match (octets_at(login, b"LOGIN"), octets_at(login, b"PASSWORD")) {
             (Some(name), Some(password)) => Some(self.has(name, password)),
             _ => None,
         }
