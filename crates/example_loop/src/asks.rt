@@ -16,9 +16,10 @@ impl<R: Role> Streaming<R> {
         if method.kind().is_reply() && self.inner.reply_due(channel).is_none() {
             return Ok(());
         }
-        let Ok(message) = Message::try_plain(method) else {
+        if method.has_content() {
             return Err(AskFault::NotSendable);
-        };
+        }
+        let message = Message::plain(method);
         let sent = self.inner.send(channel, &message);
         drop(message);
         sent

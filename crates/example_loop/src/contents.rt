@@ -150,7 +150,7 @@ impl Coming {
         {
             let body = content.joined(alloc)?;
             end.pass(&body)?;
-            self.content = None;
+            drop(self.content.take());
         }
         Ok(())
     }

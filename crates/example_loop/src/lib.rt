@@ -5,7 +5,9 @@
 mod asks;
 mod contents;
 mod hello;
+mod keys;
 mod link;
+mod plain;
 mod pulse;
 mod running;
 mod sockets;
@@ -13,7 +15,9 @@ mod streaming;
 
 pub use crate::contents::{Coming, Content, may_go_later, octets_of};
 pub use crate::hello::{ABILITIES, BROKER_ABILITIES, client_end, server_end, word_after};
+pub use crate::keys::key_from;
 pub use crate::link::{FULL, Heard, Link, MOST};
+pub use crate::plain::{alone, put_ask};
 pub use crate::running::{Program, serve};
 pub use crate::sockets::Connect;
 pub use crate::streaming::Streaming;

@@ -129,7 +129,7 @@ impl<R: Role> Streaming<R> {
         if let Some(content) = &self.under_way
             && content.writer.left() == 0
         {
-            self.under_way = None;
+            drop(self.under_way.take());
         }
     }
 
