@@ -1,18 +1,16 @@
 //! What one side of a relay asks of the other: what an event there asks for, and the channels on which asks wait.
 ghost use Rattle.std.specs.Prelude.{◌≡◌, ◌+◌, ◌++◌, ◌∷◌, [], Some, None, length, true, false, IfOk, OnErr, OnOk};
-ghost use Rattle.amqp_method.specs.MethodRefView.{lent_call};
-ghost use Rattle.amqp_core.specs.Asks.View.{ask_view};
 ghost use Rattle.amqp_core.specs.Stream.Asks.{StreamAsked};
 ghost use Rattle.amqp_core.specs.Stream.EventRefView.{event_ref_view};
 ghost use Rattle.example_loop.specs.Gathering.{content_there, gathered};
 ghost use Rattle.example_proxy.specs.Advancing.{Advances, Rests, partner_after};
 ghost use Rattle.example_proxy.specs.AskingView.{ask_there, asking_view, closes};
-ghost use Rattle.example_proxy.specs.Passing.{after, asked, method_alone, sent};
+ghost use Rattle.example_proxy.specs.Passing.{after, asked, sent};
 
 use amqp_core::{Ask, AskFault, EventRef, Role, StreamEnd};
-use amqp_method::{Kind, Message, MethodRef, reply};
+use amqp_method::{Kind, reply};
 use amqp_value::ShortStr;
-use example_loop::{Coming, Content, Heard, may_go_later, octets_of};
+use example_loop::{Coming, Content, Heard, alone, may_go_later, octets_of, put_ask};
 use std::alloc::{AllocError, Global};
 use std::collections::VecDeque;
 
@@ -54,19 +52,11 @@ impl Asking {
                     end.close_channel_for(*channel, *code, text, kind)
                 }
                 (Ask::Close(code, text), Some(kind)) => end.close_for(*code, text, kind),
-                (_, _) => put_plain(ask, end),
+                (_, _) => put_ask(end, ask),
             },
             Asking::Content(channel, content) => content.send(end, *channel),
         }
     }
-}
-
-/// Asks an end as it stands. An open's number is not needed: the proxy opens channels itself.
-fn put_plain<R: Role>(ask: &Ask, end: &mut StreamEnd<R>) -> Result<(), AskFault>
-    ensures { StreamAsked end.old (ask_view ask.now) result end.new }
-{
-    end.ask(ask)?;
-    Ok(())
 }
 
 /// What an event asks of the other side, if anything, where its channel has this number there.
@@ -77,7 +67,7 @@ pub fn asked_by(alloc: Global, coming: &mut Coming, partner: u16, heard: &Heard<
         ≡ after (gathered coming.old) (event_ref_view heard.now.event)) }
 {
     let ask = match heard.event {
-        EventRef::Method(_, method) => return plain(alloc, partner, method),
+        EventRef::Method(_, method) => Ask::Send(partner, alone(alloc, method)?),
         EventRef::Begins(_, method) => return coming.begin(alloc, method).map(|()| None),
         EventRef::Heads(_, head, whole) => return sent(partner, coming.head(alloc, head, whole)?),
         EventRef::Part(_, part, whole) => return sent(partner, coming.add(alloc, part, whole)?),
@@ -99,15 +89,6 @@ pub fn asked_by(alloc: Global, coming: &mut Coming, partner: u16, heard: &Heard<
         _ => return Ok(None),
     };
     Ok(Some(Asking::Plain(ask, heard.about)))
-}
-
-fn plain(alloc: Global, partner: u16, method: MethodRef<'_>) -> Asked
-    ensures { IfOk result (λ ask. ask_there ask ≡ method_alone partner (lent_call method.entry)) }
-{
-    match Message::try_plain(method.to_owned(alloc)?) {
-        Ok(message) => Ok(Some(Asking::Plain(Ask::Send(partner, message), None))),
-        Err(_) => Err(AskFault::NotSendable.into()),
-    }
 }
 
 fn sent(partner: u16, content: Option<Content>) -> Asked
@@ -154,8 +135,11 @@ impl Channel {
     }
 
     pub fn octets(&self) -> usize {
-        let octets = self.waiting.iter().map(Asking::octets);
-        octets.fold(0, usize::saturating_add)
+        let mut octets: usize = 0;
+        for asking in &self.waiting {
+            octets = octets.saturating_add(asking.octets());
+        }
+        octets
     }
 
     /// Asks what waits, in order, until the end refuses an ask for now or none is left; a close only if it may go.
@@ -186,9 +170,8 @@ impl Channel {
         };
         self.waiting.push_front_reserved(next);
         if may_go_later(fault) {
-            Ok(false)
-        } else {
-            Err(fault)
+            return Ok(false);
         }
+        Err(fault)
     }
 }

@@ -72,9 +72,9 @@ impl Relay {
         client.pull(rt, broker, room)?;
         broker.pull(rt, client, room)?;
         client.answer(broker.link.end.inner.phase() == Phase::Running);
-        client.advance(true, broker.link.source())?;
-        let has_half = broker.link.source().is_some();
-        broker.advance(has_half, client.link.source())?;
+        let source = broker.link.source();
+        client.advance(true, source)?;
+        broker.advance(source.is_some(), client.link.source())?;
         client.link.settle(ticks);
         broker.link.settle(ticks);
         client.begin(broker)?;
@@ -117,12 +117,12 @@ impl Program for Relays<'_> {
     }
 
     fn turn(&mut self, rt: &impl Print, ticks: bool, room: &mut [u8]) -> Done {
-        for relay in self.relays.values_mut() {
+        self.relays.retain(|_, relay| {
             if ticks || relay.has_work() {
                 relay.turn(rt, ticks, room);
             }
-        }
-        self.relays.retain(|_, relay| !relay.client.link.is_done() || !relay.broker.link.is_done());
+            !relay.client.link.is_done() || !relay.broker.link.is_done()
+        });
         Ok(())
     }
 }

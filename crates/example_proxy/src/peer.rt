@@ -6,7 +6,7 @@ use amqp_core::{Ask, EventRef, Role, StreamEnd};
 use amqp_method::reply;
 use amqp_value::ShortStr;
 use anyhow::Result;
-use example_loop::{FULL, Heard, Link};
+use example_loop::{FULL, Heard, Link, key_from};
 use mio::net::TcpStream;
 use std::alloc::Global;
 use std::collections::BTreeMap;
@@ -24,7 +24,7 @@ pub struct Peer<R: Role> {
 impl<R: Role> Peer<R> {
     pub fn new(alloc: Global, stream: TcpStream, end: StreamEnd<R>, log: bool) -> Result<Peer<R>> {
         let mut channels = BTreeMap::new(alloc);
-        channels.insert(0, Channel::new(alloc, 0))?;
+        drop(channels.insert(0, Channel::new(alloc, 0))?);
         Ok(Peer {
             alloc,
             link: Link::new(alloc, stream, end),
@@ -104,12 +104,12 @@ impl<R: Role> Peer<R> {
             }
         } else if let EventRef::Opened(number) = heard.event {
             let partner = self.link.end.inner.open_channel()?;
-            channels.insert(number, Channel::new(self.alloc, partner))?;
+            drop(channels.insert(number, Channel::new(self.alloc, partner))?);
             let own = Channel::new(self.alloc, number);
-            self.channels.insert(partner, own)?;
+            drop(self.channels.insert(partner, own)?);
         }
         if let EventRef::ChannelClosed(number, _) | EventRef::Discarded(number) = heard.event {
-            channels.remove(&number);
+            drop(channels.remove(&number));
             if is_source {
                 self.close(reply::CONNECTION_FORCED, "CONNECTION_FORCED")?;
             }
@@ -119,38 +119,55 @@ impl<R: Role> Peer<R> {
 
     /// Begins a content of the other side that isn't whole, where nothing is before it.
     pub fn begin<P: Role>(&mut self, from: &mut Peer<P>) -> Done {
-        for (number, channel) in &mut from.channels {
-            if let Some(partner) = channel.partner
+        let mut next = 0;
+        for _ in 0..from.channels.len() {
+            let Some(number) = key_from(&from.channels, next) else {
+                break;
+            };
+            if let Some(channel) = from.channels.get_mut(&number)
+                && let Some(partner) = channel.partner
                 && let Some(own) = self.channels.get(&partner)
                 && own.waiting.is_empty()
             {
                 let (coming, end) = (&mut channel.coming, &mut self.link.end);
-                coming.pass_on(self.alloc, end, partner, *number)?;
+                coming.pass_on(self.alloc, end, partner, number)?;
             }
+            next = number.saturating_add(1);
         }
         Ok(())
     }
 
     /// Asks something on a channel, after what waits there. After a close nothing is.
     fn push(&mut self, number: u16, asking: Asking) -> Done {
-        let is_over = self.link.is_over();
         match self.channels.get_mut(&number) {
-            Some(own) if own.partner.is_some() && !is_over => Ok(own.push(asking)?),
+            Some(own) if own.partner.is_some() && !self.link.is_over() => Ok(own.push(asking)?),
             _ => Ok(drop(asking)),
         }
     }
 
-    /// Asks what waits on the channels, then what is for the connection: that at once, or once nothing else is left. A
-    /// close waits on the channel from which a content goes out.
+    /// Asks what waits on the channels, then what is for the connection: that at once, or once nothing else is left.
     pub fn advance(&mut self, at_once: bool, source: Option<u16>) -> Done {
-        let mut is_left = source.is_some();
-        for (number, channel) in self.channels.iter_mut().rev() {
-            if *number > 0 || at_once || !is_left {
-                channel.advance(&mut self.link.end.inner, source != Some(*number))?;
-                is_left |= !channel.waiting.is_empty();
-            }
+        let (mut next, mut is_left) = (1, source.is_some());
+        for _ in 0..self.channels.len() {
+            let Some(number) = key_from(&self.channels, next) else {
+                break;
+            };
+            is_left |= self.advance_on(number, source != Some(number))?;
+            next = number.saturating_add(1);
+        }
+        if at_once || !is_left {
+            self.advance_on(0, true)?;
         }
         Ok(())
+    }
+
+    /// Asks what waits on a channel, a close only if no content goes out from there. It answers whether any is left.
+    fn advance_on(&mut self, number: u16, closes: bool) -> Result<bool> {
+        let Some(channel) = self.channels.get_mut(&number) else {
+            return Ok(false);
+        };
+        channel.advance(&mut self.link.end.inner, closes)?;
+        Ok(!channel.waiting.is_empty())
     }
 
     pub fn close(&mut self, code: u16, text: &str) -> Done {

@@ -39,8 +39,8 @@ returns-then-may_go_later-clause-rests g c = λ _ _.
     (back ∙ ap (map asking_view) (sym c.push_front_reserved.ensures.items)) refused.same)
     (rests_first before _ _ (ap (map asking_view) c.in-Some.ensures.items) (refused_for c.in-Err.fault _ (c.may_go_later.ensures c.if-may_go_later.true) refused.refused))
 
-pub returns-else-may_go_later-clause-advances : goal.returns-else-may_go_later-clause-advances
-returns-else-may_go_later-clause-advances g c =
+pub returns-clause-advances : goal.returns-clause-advances
+returns-clause-advances g c =
     let before = standing c.args.self.now c.args.end.now in
     let rest = c.pop_front.new.self.items in
     let back = put_back asking_view c.args.self.now.waiting.items rest c.in-Some.next c.put.new.self c.in-Some.ensures.items c.in-Err.ensures.kept in
