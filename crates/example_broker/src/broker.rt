@@ -10,7 +10,7 @@ use amqp_typed::exchange::AnyMethodView as Exchanging;
 use amqp_typed::queue::AnyMethodView as Queueing;
 use amqp_typed::{AnyMethodView, Typed};
 use amqp_value::ShortStr;
-use example_loop::{Connect, Program, Streaming};
+use example_loop::{Connect, Program, Streaming, key_from};
 use example_store::{Channel, Exchange, Users};
 use mio::net::TcpStream;
 use std::alloc::Global;
@@ -222,10 +222,9 @@ impl Broker {
 
     fn close_channels(&mut self, id: usize) -> Done {
         for _ in 0..u64::MAX {
-            let Some((number, _)) = self.connection(id)?.channels.first_key_value() else {
+            let Some(number) = key_from(&self.connection(id)?.channels, 0) else {
                 break;
             };
-            let number = *number;
             self.close_channel(Place(id, number))?;
         }
         Ok(())
@@ -233,23 +232,26 @@ impl Broker {
 
     /// Each queue sends what it can. Who sent first is asked last the next time, so that none waits for ever.
     fn deliver(&mut self) {
-        let (first, mut sender) = (self.first, None);
-        for is_before in [false, true] {
-            for (id, queue) in self.queues.iter_mut() {
-                if (*id < first) == is_before && queue.deliver(&mut self.connections) {
-                    sender = sender.or(Some(*id));
-                }
+        let (mut next, mut sender) = (self.first, None);
+        for _ in 0..self.queues.len() {
+            let Some(id) = self.queue_from(next) else {
+                break;
+            };
+            if let Some(queue) = self.queues.get_mut(&id)
+                && queue.deliver(&mut self.connections)
+            {
+                sender = sender.or(Some(id));
             }
+            next = id.saturating_add(1);
         }
         if let Some(id) = sender {
             self.first = id.saturating_add(1);
         }
     }
 
-    /// The first connection whose number is at least this.
-    fn connection_from(&self, id: usize) -> Option<usize> {
-        let first = self.connections.range(id..).next()?;
-        Some(*first.0)
+    /// The first queue whose number is at least this, or else the first of all.
+    fn queue_from(&self, id: QueueId) -> Option<QueueId> {
+        key_from(&self.queues, id).or(key_from(&self.queues, 0))
     }
 
     /// A connection has its turn.
@@ -308,7 +310,7 @@ impl Program for Broker {
         self.is_short = self.held.get() > bound;
         let mut next = 0;
         for _ in 0..self.connections.len() {
-            let Some(id) = self.connection_from(next) else {
+            let Some(id) = key_from(&self.connections, next) else {
                 break;
             };
             drop(self.serve(id, ticks, room));

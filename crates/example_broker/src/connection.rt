@@ -100,7 +100,7 @@ impl Connection {
 
     /// A channel opens.
     pub fn open(&mut self, number: u16) -> Done {
-        self.channels.insert(number, Channel::new(self.alloc))?;
+        drop(self.channels.insert(number, Channel::new(self.alloc))?);
         Ok(())
     }
 

@@ -22,7 +22,7 @@ pub fn standard_exchanges(alloc: Global) -> Result<BTreeMap<Vec<u8>, Exchange>> 
     let mut exchanges = BTreeMap::new(alloc);
     for (name, kind) in STANDARD.iter() {
         let name = Vec::from_slice(alloc, name)?;
-        exchanges.insert(name, Exchange::standard(alloc, *kind))?;
+        drop(exchanges.insert(name, Exchange::standard(alloc, *kind))?);
     }
     Ok(exchanges)
 }
@@ -86,7 +86,7 @@ impl Broker {
         };
         let name = Vec::from_slice(self.alloc, declare.exchange)?;
         let exchange = Exchange::declared(self.alloc, kind, declare);
-        self.exchanges.insert(name, exchange)?;
+        drop(self.exchanges.insert(name, exchange)?);
         Ok(())
     }
 
@@ -99,7 +99,7 @@ impl Broker {
         {
             return self.refuse(reply::PRECONDITION_FAILED, "in use", name);
         }
-        self.exchanges.remove(name);
+        drop(self.exchanges.remove(name));
         self.send(at, exchange::DeleteOk::new())
     }
 
@@ -140,7 +140,7 @@ impl Broker {
             return self.no_exchange(name);
         };
         if exchange.unbind(binding) {
-            self.exchanges.remove(name);
+            drop(self.exchanges.remove(name));
         }
         Ok(())
     }

@@ -175,7 +175,7 @@ impl Broker {
                 let Delivery { place, content, .. } = delivery;
                 Ok(queue.messages.put_back(place, content)?)
             }
-            _ => Ok(()),
+            _ => Ok(drop(delivery)),
         }
     }
 
