@@ -37,22 +37,29 @@ pub fn word_after<'a>(words: &'a [String], name: &str) -> Option<&'a str> {
     None
 }
 
+fn put(alloc: Global, table: &mut Table, name: &str, value: Value) -> Result<(), ValueFault> {
+    table.push(ShortStr::text(alloc, name)?, value)?;
+    Ok(())
+}
+
 /// What a program can do.
 fn capabilities(alloc: Global, abilities: &[&str]) -> Result<Table, ValueFault> {
     let mut capabilities = Table::new(alloc);
     for ability in abilities {
-        capabilities.push(ShortStr::text(alloc, ability)?, Value::from(true))?;
+        put(alloc, &mut capabilities, ability, Value::from(true))?;
     }
     Ok(capabilities)
 }
 
 /// The properties of a program of this name.
 fn properties(alloc: Global, product: &str, abilities: &[&str]) -> Result<Table, ValueFault> {
+    let (able, name) = (
+        capabilities(alloc, abilities)?,
+        Value::string(alloc, product)?,
+    );
     let mut properties = Table::new(alloc);
-    let name = ShortStr::text(alloc, "product")?;
-    properties.push(name, Value::string(alloc, product)?)?;
-    let able = capabilities(alloc, abilities)?;
-    properties.push(ShortStr::text(alloc, "capabilities")?, Value::from(able))?;
+    put(alloc, &mut properties, "product", name)?;
+    put(alloc, &mut properties, "capabilities", Value::from(able))?;
     Ok(properties)
 }
 

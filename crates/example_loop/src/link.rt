@@ -162,22 +162,18 @@ impl<R: Role> Link<R> {
         let Ok(step) = self.end.inner.advance(octets) else {
             return None;
         };
-        let taken = step.octets;
-        let about = match self.end.inner.closed_for() {
+        let (taken, about) = (step.octets, self.closed_for());
+        match self.end.inner.event(step) {
+            Some(event) => Some((taken, Some(Heard::of(event, about)))),
+            None => Some((taken, None)),
+        }
+    }
+
+    /// The kind of the method that a close is about, if it names one.
+    fn closed_for(&self) -> Option<Kind> {
+        match self.end.inner.closed_for() {
             Some(cause) => cause.kind(),
             None => None,
-        };
-        match self.end.inner.event(step) {
-            Some(event) => {
-                let number = number_of(event);
-                let heard = Heard {
-                    number,
-                    event,
-                    about,
-                };
-                Some((taken, Some(heard)))
-            }
-            None => Some((taken, None)),
         }
     }
 }
@@ -192,7 +188,15 @@ pub struct Heard<'a> {
     pub about: Option<Kind>,
 }
 
-impl Heard<'_> {
+impl<'a> Heard<'a> {
+    fn of(event: EventRef<'a>, about: Option<Kind>) -> Heard<'a> {
+        Heard {
+            number: number_of(event),
+            event,
+            about,
+        }
+    }
+
     /// Prints a line for it, if it isn't of the content that follows a method.
     pub fn print(&self, rt: &impl Print, is_client: bool) {
         if matches!(self.event, EventRef::Heads(..) | EventRef::Part(..)) {

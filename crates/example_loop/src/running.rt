@@ -38,9 +38,18 @@ pub fn serve<R: Net<Stream = TcpStream, Listener = TcpListener> + Clock + Print>
 ) -> anyhow::Result<()> {
     let mut room = vec![in alloc; 0; AT_ONCE]?;
     let mut sockets = Sockets::listen(rt, alloc, address)?;
+    serve_all(rt, &mut sockets, program, &mut room)
+}
+
+fn serve_all<R: Net<Stream = TcpStream, Listener = TcpListener> + Clock + Print>(
+    rt: &R,
+    sockets: &mut Sockets<'_, R>,
+    program: &mut impl Program,
+    room: &mut [u8],
+) -> anyhow::Result<()> {
     announce(rt, &sockets.listener)?;
     for _ in 0..u64::MAX {
-        turn(rt, &mut sockets, program, &mut room)?;
+        turn(rt, sockets, program, room)?;
     }
     Ok(())
 }
