@@ -68,7 +68,7 @@ pub fn server_end(
     alloc: Global,
     product: &str,
     abilities: &[&str],
-) -> anyhow::Result<StreamEnd<Server>> {
+) -> anyhow::Result<Box<StreamEnd<Server>>> {
     let mechanisms = Vec::from_slice(alloc, b"PLAIN AMQPLAIN")?;
     let locales = Vec::from_slice(alloc, b"en_US")?;
     let mut config = Config::new(ServerHello {
@@ -79,7 +79,8 @@ pub fn server_end(
     config.gated = true;
     config.max_body = MAX_BODY;
     config.heartbeat = HEARTBEAT;
-    Ok(End::new(alloc, config)?.into_stream())
+    let end = End::new(alloc, config)?.into_stream();
+    Ok(Box::new(alloc, end)?)
 }
 
 /// A client likewise, which logs in by PLAIN, and goes to the virtual host `/`.
@@ -89,7 +90,7 @@ pub fn client_end(
     abilities: &[&str],
     user: &str,
     password: &str,
-) -> anyhow::Result<StreamEnd<Client>> {
+) -> anyhow::Result<Box<StreamEnd<Client>>> {
     let mechanism = ShortStr::text(alloc, "PLAIN")?;
     let response = format!(in alloc; "\0{user}\0{password}")?.into_bytes();
     let locale = ShortStr::text(alloc, "en_US")?;
@@ -103,5 +104,6 @@ pub fn client_end(
     });
     config.max_body = MAX_BODY;
     config.heartbeat = HEARTBEAT;
-    Ok(End::new(alloc, config)?.into_stream())
+    let end = End::new(alloc, config)?.into_stream();
+    Ok(Box::new(alloc, end)?)
 }

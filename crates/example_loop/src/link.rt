@@ -49,7 +49,7 @@ impl<R: Role> Drop for Link<R> {
 }
 
 impl<R: Role> Link<R> {
-    pub fn new(alloc: Global, stream: TcpStream, end: StreamEnd<R>) -> Link<R> {
+    pub fn new(alloc: Global, stream: TcpStream, end: Box<StreamEnd<R>>) -> Link<R> {
         Link {
             end: Streaming::new(alloc, end),
             stream,

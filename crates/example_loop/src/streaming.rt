@@ -54,7 +54,8 @@ impl UnderWay {
 /// a close of the connection, which makes an end of the content.
 #[derive(Drop)]
 pub struct Streaming<R: Role> {
-    pub inner: StreamEnd<R>,
+    /// In a box, so that what holds it is small, as a connection among others in a map.
+    pub inner: Box<StreamEnd<R>>,
     under_way: Option<UnderWay>,
     /// The frames of such contents, which go out before those that the end puts.
     ahead: Vec<u8>,
@@ -65,7 +66,7 @@ pub struct Streaming<R: Role> {
 }
 
 impl<R: Role> Streaming<R> {
-    pub fn new(alloc: Global, inner: StreamEnd<R>) -> Streaming<R> {
+    pub fn new(alloc: Global, inner: Box<StreamEnd<R>>) -> Streaming<R> {
         Streaming {
             inner,
             under_way: None,

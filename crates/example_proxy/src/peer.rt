@@ -22,7 +22,12 @@ pub struct Peer<R: Role> {
 }
 
 impl<R: Role> Peer<R> {
-    pub fn new(alloc: Global, stream: TcpStream, end: StreamEnd<R>, log: bool) -> Result<Peer<R>> {
+    pub fn new(
+        alloc: Global,
+        stream: TcpStream,
+        end: Box<StreamEnd<R>>,
+        log: bool,
+    ) -> Result<Peer<R>> {
         let mut channels = BTreeMap::new(alloc);
         drop(channels.insert(0, Channel::new(alloc, 0))?);
         Ok(Peer {
