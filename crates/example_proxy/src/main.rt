@@ -6,7 +6,7 @@ mod peer;
 
 use crate::peer::{Done, Peer};
 use amqp_core::{Client, Phase, Server};
-use example_loop::{ABILITIES, Connect, MOST, Program, client_end, serve, server_end, word_after};
+use example_loop::{ABILITIES, Connect, Link, MOST, Program, client_end, server_end, word_after};
 use mio::event::Event;
 use mio::net::TcpStream;
 use std::alloc::Global;
@@ -39,7 +39,7 @@ fn main(rt: HostRuntime) -> anyhow::Result<ExitCode> {
         log,
         relays: BTreeMap::new(alloc),
     };
-    serve(&rt, alloc, words[1].as_str(), &mut relays)?;
+    example_loop::serve(&rt, alloc, words[1].as_str(), &mut relays)?;
     Ok(ExitCode::SUCCESS)
 }
 
@@ -101,10 +101,10 @@ impl Program for Relays<'_> {
     fn add(&mut self, to: &impl Connect, number: usize, stream: TcpStream) -> Done {
         let alloc = self.alloc;
         let client = server_end(alloc, "example_proxy", &ABILITIES)?;
-        let client = Peer::new(alloc, stream, client, self.log)?;
+        let client = Peer::new(alloc, Link::new(alloc, stream, client), self.log)?;
         let stream = to.connect(number, self.broker)?;
         let broker = client_end(alloc, "example_proxy", &ABILITIES, self.user, self.password)?;
-        let broker = Peer::new(alloc, stream, broker, self.log)?;
+        let broker = Peer::new(alloc, Link::new(alloc, stream, broker), self.log)?;
         drop(self.relays.insert(number, Relay { client, broker })?);
         Ok(())
     }

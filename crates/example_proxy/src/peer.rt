@@ -2,12 +2,11 @@
 ghost use Rattle.std.specs.Prelude.{◌≤◌, IfOk, IfSome, length};
 
 use crate::asking::{Asking, Channel, asked_by};
-use amqp_core::{Ask, EventRef, Role, StreamEnd};
+use amqp_core::{Ask, EventRef, Role};
 use amqp_method::reply;
 use amqp_value::ShortStr;
 use anyhow::Result;
 use example_loop::{FULL, Heard, Link, key_from};
-use mio::net::TcpStream;
 use std::alloc::Global;
 use std::collections::BTreeMap;
 
@@ -22,17 +21,12 @@ pub struct Peer<R: Role> {
 }
 
 impl<R: Role> Peer<R> {
-    pub fn new(
-        alloc: Global,
-        stream: TcpStream,
-        end: Box<StreamEnd<R>>,
-        log: bool,
-    ) -> Result<Peer<R>> {
+    pub fn new(alloc: Global, link: Link<R>, log: bool) -> Result<Peer<R>> {
         let mut channels = BTreeMap::new(alloc);
         drop(channels.insert(0, Channel::new(alloc, 0))?);
         Ok(Peer {
             alloc,
-            link: Link::new(alloc, stream, end),
+            link,
             channels,
             log,
         })
