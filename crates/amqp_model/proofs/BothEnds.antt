@@ -25,7 +25,7 @@ use Rattle.amqp_model.specs.Stream.Octets.{frames_put, frames_taken}
 use Rattle.amqp_model.specs.Pair.Pairs.{ComesNext, config_of}
 use Rattle.amqp_model.proofs.Footings.{Footing, footing_of}
 use Rattle.amqp_model.proofs.Together.{Word, Start, Close, Signal, Says, Beats}
-use Rattle.amqp_model.proofs.Together.{passing, AllRead, IsBlock, IsBeat, a_beat, beats, none, one-more, at, Together}
+use Rattle.amqp_model.proofs.Together.{passing, AllRead, IsBlock, IsBeat, a_beat, beats, one-more, at, Together}
 use Rattle.amqp_model.proofs.Together.{new, greeted}
 use Rattle.amqp_model.proofs.Together.{opened, both_run, client_closes as by_client, server_closed}
 use Rattle.amqp_model.proofs.Together.{both_closed, client_closed}
