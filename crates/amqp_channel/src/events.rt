@@ -2,7 +2,7 @@
 ghost use Rattle.std.specs.Prelude.{◌≡◌, Some, IfOk};
 ghost use Rattle.amqp_model.specs.Wire.Methods.{octets_at};
 ghost use Rattle.amqp_method.specs.MethodRefView.{lent_call};
-ghost use Rattle.amqp_model.specs.End.Events.{reason_in};
+ghost use Rattle.amqp_model.specs.End.Events.{event_channel, reason_in};
 ghost use Rattle.amqp_channel.specs.Events.EventView.{event_view, reason_there};
 ghost use Rattle.amqp_channel.specs.Events.Closes.{reason_view, IsClose};
 
@@ -89,6 +89,18 @@ fn copy_reason(reason: &Option<Reason>) -> Result<Option<Reason>, OutOfMemory>
 }
 
 impl Event {
+    /// The number of the channel that it is about, or 0 where it is about the connection.
+    pub fn channel(&self) -> u16
+        ensures { result ≡ event_channel (event_view self.now) }
+    {
+        match self {
+            Event::Opened(channel) | Event::Told(channel, _) | Event::Flow(channel, _) => *channel,
+            Event::FlowOk(channel, _) | Event::ChannelClosed(channel, _) => *channel,
+            Event::Discarded(channel) => *channel,
+            _ => 0,
+        }
+    }
+
     /// An equal event.
     pub fn copy(&self) -> Result<Event, OutOfMemory>
         ensures { IfOk result (λ event. event_view event ≡ event_view self.now) }

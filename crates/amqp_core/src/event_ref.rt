@@ -5,8 +5,8 @@ ghost use Rattle.amqp_model.specs.End.Events.{reason_in};
 ghost use Rattle.amqp_model.specs.Wire.Methods.{octets_at};
 ghost use Rattle.amqp_channel.specs.Events.Closes.{IsClose};
 ghost use Rattle.amqp_core.specs.Stream.EventRefView.{blocked_lent, channel_close_lent, close_lent, event_ref_there};
-ghost use Rattle.amqp_core.specs.Stream.EventRefView.{is_close_kind, method_lent, reason_ref_view};
-ghost use Rattle.amqp_model.specs.Lent.Alike.{part_lent};
+ghost use Rattle.amqp_core.specs.Stream.EventRefView.{event_ref_view, is_close_kind, method_lent, reason_ref_view};
+ghost use Rattle.amqp_model.specs.Lent.Alike.{lent_channel, part_lent};
 ghost use Rattle.amqp_channel.specs.ReadingView.{reading_view};
 
 use amqp_channel::words::same;
@@ -60,6 +60,22 @@ pub enum EventRef<'a> {
     Unblocked,
     /// A step of the handshake, a heartbeat, or a close that crosses this end's own.
     Quiet,
+}
+
+impl EventRef<'_> {
+    /// The number of the channel that it is about, or 0 where it is about the connection.
+    pub fn channel(self) -> u16
+        ensures { result ≡ lent_channel (event_ref_view self.entry) }
+    {
+        match self {
+            EventRef::Opened(number) | EventRef::Method(number, _) => number,
+            EventRef::Begins(number, _) | EventRef::Heads(number, _, _) => number,
+            EventRef::Part(number, _, _) | EventRef::Flow(number, _) => number,
+            EventRef::FlowOk(number, _) | EventRef::ChannelClosed(number, _) => number,
+            EventRef::Discarded(number) => number,
+            _ => 0,
+        }
+    }
 }
 
 /// The reason in a close.

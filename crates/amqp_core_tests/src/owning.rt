@@ -7,13 +7,14 @@ use std::alloc::Global;
 use std::test::Fail;
 
 /// Frames that a server takes with channel 1 open, none of them of a content: a heartbeat, tx.select, a flow, a close
-/// of the channel with the code 320 and the text `bye`, and a close of the connection without a text.
-static FRAMES: [&str; 5] = [
-    "08000000000000ce",
-    "tx.select/1",
-    "010001000000050014001400ce",
-    "0100010000000e0014002801400362796500000000ce",
-    "0100000000000b000a003200000000000000ce",
+/// of the channel with the code 320 and the text `bye`, and a close of the connection without a text. With each stands
+/// the channel that it is about, or 0.
+static FRAMES: [(&str, u16); 5] = [
+    ("08000000000000ce", 0),
+    ("tx.select/1", 1),
+    ("010001000000050014001400ce", 1),
+    ("0100010000000e0014002801400362796500000000ce", 1),
+    ("0100000000000b000a003200000000000000ce", 0),
 ];
 
 /// A server with channel 1 open.
@@ -38,16 +39,34 @@ fn own(alloc: Global, event: Option<EventRef<'_>>) -> Result<Option<Event>, Fail
     }
 }
 
-/// Whether the frame tells an event, and the same at both.
+/// Whether there is an event, and about this channel.
+fn is_about(event: Option<EventRef<'_>>, channel: u16) -> bool {
+    match event {
+        Some(event) => event.channel() == channel,
+        None => false,
+    }
+}
+
+fn is_told_about(event: &Option<Event>, channel: u16) -> bool {
+    match event {
+        Some(event) => event.channel() == channel,
+        None => false,
+    }
+}
+
+/// Whether the frame tells an event about this channel, and the same at both.
 fn is_same(
     alloc: Global,
     gathers: &mut End<Server>,
     lends: &mut StreamEnd<Server>,
     frame: &[u8],
+    channel: u16,
 ) -> Result<bool, Fail> {
-    let owned = own(alloc, lends.feed_ref(frame)?.event)?;
+    let lent = lends.feed_ref(frame)?.event;
+    let is_lent = is_about(lent, channel);
+    let owned = own(alloc, lent)?;
     let told = gathers.feed(frame)?.event;
-    let same = owned == told && told.is_some();
+    let same = owned == told && is_lent && is_told_about(&told, channel);
     drop(owned);
     drop(told);
     Ok(same)
@@ -58,9 +77,9 @@ fn check_frames(
     gathers: &mut End<Server>,
     lends: &mut StreamEnd<Server>,
 ) -> Result<(), Fail> {
-    for word in FRAMES.iter().copied() {
+    for (word, channel) in FRAMES.iter().copied() {
         let frame = octets_of(alloc, &[word])?;
-        if !is_same(alloc, gathers, lends, &frame)? {
+        if !is_same(alloc, gathers, lends, &frame, channel)? {
             return Err(Fail::new(format!(in alloc; "another event of {word}")?));
         }
     }
@@ -78,11 +97,14 @@ fn an_owned_event_is_that_of_an_end_that_gathers(rt: HostRuntime) -> Result<(), 
     checked
 }
 
+/// Whether the frame tells an event about channel 1, of which none is owned.
 fn owns_none(alloc: Global, lends: &mut StreamEnd<Server>, frame: &[u8]) -> Result<bool, Fail> {
-    let owned = own(alloc, lends.feed_ref(frame)?.event)?;
+    let lent = lends.feed_ref(frame)?.event;
+    let is_lent = is_about(lent, 1);
+    let owned = own(alloc, lent)?;
     let none = owned.is_none();
     drop(owned);
-    Ok(none)
+    Ok(none && is_lent)
 }
 
 fn owns_neither(

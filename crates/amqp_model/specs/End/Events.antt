@@ -35,6 +35,16 @@ pub data Event : Type 0 where
   Blocked : (reason : List ℕ) → Event
   Unblocked Quiet : Event
 
+-- the channel that an event is about, or 0 where it is about the connection
+abbrev pub event_channel : Event → ℕ
+event_channel (Opened channel) = channel
+event_channel (Told channel message) = channel
+event_channel (Flow channel active) = channel
+event_channel (FlowOk channel active) = channel
+event_channel (ChannelClosed channel reason) = channel
+event_channel (Discarded channel) = channel
+event_channel event = 0
+
 -- the other end breaks the protocol, which closes the connection with a code; a type octet that there isn't, a wrong
 -- end octet or a tune-ok out of range, to which there is no answer; another protocol header; and that the connection
 -- was closed, or had failed, before

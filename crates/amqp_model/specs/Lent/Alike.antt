@@ -7,7 +7,7 @@ use Rattle.amqp_model.specs.Lent.Streaming.{streamed}
 use Rattle.amqp_model.specs.End.Channels.{Life, Channel, Free, Opening, Closing, Open, End}
 use Rattle.amqp_model.specs.End.Closes.{Owed}
 use Rattle.amqp_model.specs.End.Events.{Event, Told, Plain, Whole, Fault, FrameVerdict, Proceeds, RefusesContent}
-use Rattle.amqp_model.specs.End.Events.{Faults}
+use Rattle.amqp_model.specs.End.Events.{Faults, event_channel}
 use Rattle.amqp_model.specs.Stream.Endpoint.{Endpoint, Outcome, Unfinished, Finished, Found, Feeding}
 
 -- What an end keeps.
@@ -92,6 +92,14 @@ pub data LentEvent : Type 0 where
   Heads : (channel size : ℕ) → Properties → (whole : Bool) → LentEvent
   Part : (channel : ℕ) → (octets : List ℕ) → (whole : Bool) → LentEvent
   Other : Event → LentEvent
+
+-- the channel that it is about, or 0 where it is about the connection
+abbrev pub lent_channel : LentEvent → ℕ
+lent_channel (WithoutContent channel method) = channel
+lent_channel (Begins channel method) = channel
+lent_channel (Heads channel size properties whole) = channel
+lent_channel (Part channel octets whole) = channel
+lent_channel (Other event) = event_channel event
 
 -- a frame that is part of a message: what is lent of it, and whether a content is whole with it
 abbrev pub part_lent : (number : ℕ) → Reading → (whole : Bool) → Option LentEvent
