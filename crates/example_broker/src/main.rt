@@ -3,14 +3,12 @@
 
 mod broker;
 mod connection;
-mod exchanges;
-mod fault;
-mod messaging;
-mod queues;
+mod connections;
 
 use crate::broker::Broker;
 use example_loop::serve;
 use example_store::Users;
+use std::alloc::Global;
 use std::process::ExitCode;
 use std::{env, fs};
 
@@ -24,28 +22,38 @@ Exchanges, queues and messages are kept in memory, and are gone when the program
 fn main(rt: HostRuntime) -> anyhow::Result<ExitCode> {
     let alloc = rt.alloc();
     let words: Vec<String> = env::args(&rt)?.collect(alloc)?;
-    let (address, users) = match words.as_slice() {
-        [_, option] if option.as_str() == "--help" => {
+    let Some((file, address)) = named_by(&words) else {
+        if words.len() == 2 && words[1].as_str() == "--help" {
             println!(rt; "{HELP}")?;
             return Ok(ExitCode::SUCCESS);
         }
-        [_, address] if !address.as_str().starts_with("-") => {
-            (address, String::from_str(alloc, "guest:guest")?)
-        }
-        [_, option, file, address] if option.as_str() == "--users" => {
-            (address, fs::read_to_string(&rt, file.as_str())?)
-        }
-        _ => {
-            eprintln!(rt; "{HELP}")?;
-            return Ok(ExitCode::from(2));
-        }
+        eprintln!(rt; "{HELP}")?;
+        return Ok(ExitCode::from(2));
     };
+    let text = match file {
+        Some(file) => fs::read_to_string(&rt, file.as_str())?,
+        None => String::from_str(alloc, "guest:guest")?,
+    };
+    let mut broker = set_up(alloc, text)?;
+    serve(&rt, alloc, address.as_str(), &mut broker)?;
+    Ok(ExitCode::SUCCESS)
+}
+
+/// The file with the users, if one is given, and the address.
+fn named_by(words: &[String]) -> Option<(Option<&String>, &String)> {
+    match words {
+        [_, address] if !address.as_str().starts_with("-") => Some((None, address)),
+        [_, option, file, address] if option.as_str() == "--users" => Some((Some(file), address)),
+        _ => None,
+    }
+}
+
+fn set_up(alloc: Global, users: String) -> anyhow::Result<Broker> {
     let Some(users) = Users::read(users) else {
         anyhow::bail!("a line of the users is not name:password");
     };
-    let Ok(mut broker) = Broker::new(alloc, users) else {
-        anyhow::bail!("out of memory");
-    };
-    serve(&rt, alloc, address.as_str(), &mut broker)?;
-    Ok(ExitCode::SUCCESS)
+    match Broker::new(alloc, users) {
+        Ok(broker) => Ok(broker),
+        Err(_) => anyhow::bail!("out of memory"),
+    }
 }

@@ -1,2 +1,3 @@
+pub mod AskingView
 pub mod Gathering
 pub mod Pulses

@@ -1,5 +1,5 @@
 //! The command line, and what the programs say of themselves in the handshake.
-use amqp_core::{Client, ClientHello, Config, End, Server, ServerHello, StreamEnd};
+use amqp_core::{Client, ClientHello, Config, End, Role, Server, ServerHello, StreamEnd};
 use amqp_value::{ShortStr, Table, Value, ValueFault};
 use std::alloc::Global;
 
@@ -37,6 +37,16 @@ pub fn word_after<'a>(words: &'a [String], name: &str) -> Option<&'a str> {
     None
 }
 
+/// Whether a word is on the command line.
+pub fn has_word(words: &[String], name: &str) -> bool {
+    for word in words {
+        if word.as_str() == name {
+            return true;
+        }
+    }
+    false
+}
+
 fn put(alloc: Global, table: &mut Table, name: &str, value: Value) -> Result<(), ValueFault> {
     table.push(ShortStr::text(alloc, name)?, value)?;
     Ok(())
@@ -63,24 +73,28 @@ fn properties(alloc: Global, product: &str, abilities: &[&str]) -> Result<Table,
     Ok(properties)
 }
 
+/// What the ends of these programs are set up with.
+fn config<R: Role>(hello: R::Hello, gated: bool) -> Config<R> {
+    let mut config = Config::new(hello);
+    config.gated = gated;
+    config.max_body = MAX_BODY;
+    config.heartbeat = HEARTBEAT;
+    config
+}
+
 /// A server that looks at each login itself, by PLAIN or AMQPLAIN. It is a program of this name, with these abilities.
 pub fn server_end(
     alloc: Global,
     product: &str,
     abilities: &[&str],
 ) -> anyhow::Result<Box<StreamEnd<Server>>> {
-    let mechanisms = Vec::from_slice(alloc, b"PLAIN AMQPLAIN")?;
-    let locales = Vec::from_slice(alloc, b"en_US")?;
-    let mut config = Config::new(ServerHello {
+    let hello = ServerHello {
         properties: properties(alloc, product, abilities)?,
-        mechanisms,
-        locales,
-    });
-    config.gated = true;
-    config.max_body = MAX_BODY;
-    config.heartbeat = HEARTBEAT;
-    let end = End::new(alloc, config)?.into_stream();
-    Ok(Box::new(alloc, end)?)
+        mechanisms: Vec::from_slice(alloc, b"PLAIN AMQPLAIN")?,
+        locales: Vec::from_slice(alloc, b"en_US")?,
+    };
+    let end = End::new(alloc, config(hello, true))?;
+    Ok(Box::new(alloc, end.into_stream())?)
 }
 
 /// A client likewise, which logs in by PLAIN, and goes to the virtual host `/`.
@@ -91,19 +105,23 @@ pub fn client_end(
     user: &str,
     password: &str,
 ) -> anyhow::Result<Box<StreamEnd<Client>>> {
-    let mechanism = ShortStr::text(alloc, "PLAIN")?;
     let response = format!(in alloc; "\0{user}\0{password}")?.into_bytes();
-    let locale = ShortStr::text(alloc, "en_US")?;
-    let virtual_host = ShortStr::text(alloc, "/")?;
-    let mut config = Config::new(ClientHello {
+    let hello = client_hello(alloc, product, abilities, response)?;
+    let end = End::new(alloc, config(hello, false))?;
+    Ok(Box::new(alloc, end.into_stream())?)
+}
+
+fn client_hello(
+    alloc: Global,
+    product: &str,
+    abilities: &[&str],
+    response: Vec<u8>,
+) -> Result<ClientHello, ValueFault> {
+    Ok(ClientHello {
         properties: properties(alloc, product, abilities)?,
-        mechanism,
+        mechanism: ShortStr::text(alloc, "PLAIN")?,
         response,
-        locale,
-        virtual_host,
-    });
-    config.max_body = MAX_BODY;
-    config.heartbeat = HEARTBEAT;
-    let end = End::new(alloc, config)?.into_stream();
-    Ok(Box::new(alloc, end)?)
+        locale: ShortStr::text(alloc, "en_US")?,
+        virtual_host: ShortStr::text(alloc, "/")?,
+    })
 }

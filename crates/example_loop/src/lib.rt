@@ -2,7 +2,7 @@
 //! parts, and a hello.
 #![tactic(auto)]
 
-mod asks;
+mod asking;
 mod contents;
 mod hello;
 mod keys;
@@ -13,11 +13,12 @@ mod running;
 mod sockets;
 mod streaming;
 
-pub use crate::contents::{Coming, Content, may_go_later, octets_of};
-pub use crate::hello::{ABILITIES, BROKER_ABILITIES, client_end, server_end, word_after};
+pub use crate::asking::Asking;
+pub use crate::contents::{Coming, Content, may_go_later};
+pub use crate::hello::{ABILITIES, BROKER_ABILITIES, client_end, has_word, server_end, word_after};
 pub use crate::keys::key_from;
 pub use crate::link::{FULL, Heard, Link, MOST};
-pub use crate::plain::{alone, put_ask};
+pub use crate::plain::{alone, let_in, send_plain};
 pub use crate::running::{Program, serve};
 pub use crate::sockets::Connect;
 pub use crate::streaming::Streaming;

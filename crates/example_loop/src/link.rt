@@ -71,7 +71,7 @@ impl<R: Role> Link<R> {
 
     /// Whether nothing more is heard of the peer: the end is closed or has failed, or the peer is gone.
     pub fn is_over(&self) -> bool {
-        self.is_gone || matches!(self.end.phase(), Phase::Closed | Phase::Failed)
+        self.is_gone || matches!(self.end.inner.phase(), Phase::Closed | Phase::Failed)
     }
 
     /// Whether nothing is left to do.
@@ -131,8 +131,8 @@ impl<R: Role> Link<R> {
     pub fn tick(&mut self) {
         let (came, went) = self.end.counts();
         self.pulse.tick(came, went, !self.is_held);
-        let heartbeat = match self.end.phase() {
-            Phase::Running => self.end.heartbeat(),
+        let heartbeat = match self.end.inner.phase() {
+            Phase::Running => self.end.inner.heartbeat(),
             _ => 15,
         };
         if heartbeat > 0 && self.pulse.is_over(heartbeat) {
@@ -164,7 +164,7 @@ impl<R: Role> Link<R> {
         };
         let (taken, about) = (step.octets, self.closed_for());
         match self.end.inner.event(step) {
-            Some(event) => Some((taken, Some(Heard::of(event, about)))),
+            Some(event) => Some((taken, Some(Heard { event, about }))),
             None => Some((taken, None)),
         }
     }
@@ -181,22 +181,12 @@ impl<R: Role> Link<R> {
 /// An event as it is heard.
 #[derive(Clone, Copy)]
 pub struct Heard<'a> {
-    /// The channel that it tells of, or 0.
-    pub number: u16,
     pub event: EventRef<'a>,
     /// Of a close: the kind of the method that it is about, if it names one.
     pub about: Option<Kind>,
 }
 
-impl<'a> Heard<'a> {
-    fn of(event: EventRef<'a>, about: Option<Kind>) -> Heard<'a> {
-        Heard {
-            number: number_of(event),
-            event,
-            about,
-        }
-    }
-
+impl Heard<'_> {
     /// Prints a line for it, if it isn't of the content that follows a method.
     pub fn print(&self, rt: &impl Print, is_client: bool) {
         if matches!(self.event, EventRef::Heads(..) | EventRef::Part(..)) {
@@ -204,17 +194,5 @@ impl<'a> Heard<'a> {
         }
         let name = if is_client { "broker" } else { "client" };
         drop(println!(rt; "{name} {}", self.event));
-    }
-}
-
-/// The channel that an event tells of, or 0.
-fn number_of(event: EventRef<'_>) -> u16 {
-    match event {
-        EventRef::Opened(number) | EventRef::Method(number, _) => number,
-        EventRef::Begins(number, _) | EventRef::Heads(number, _, _) => number,
-        EventRef::Part(number, _, _) | EventRef::Flow(number, _) => number,
-        EventRef::FlowOk(number, _) | EventRef::ChannelClosed(number, _) => number,
-        EventRef::Discarded(number) => number,
-        _ => 0,
     }
 }

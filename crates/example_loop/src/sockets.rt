@@ -48,16 +48,13 @@ impl<'a, R: Net<Stream = net::TcpStream, Listener = net::TcpListener> + Clock> S
         address: &str,
     ) -> anyhow::Result<Sockets<'a, R>> {
         let ticked = Instant::now(rt)?;
-        let listener = net::TcpListener::bind(rt, address)?;
-        listener.set_nonblocking(true)?;
-        let mut listener = TcpListener::from_std(listener);
+        let events = Events::with_capacity(alloc, 1024)?;
         let poll = Poll::new(rt)?;
-        let (registry, token) = (poll.registry(), Token(0));
-        registry.register(&mut listener, token, Interest::READABLE)?;
+        let listener = listen(rt, &poll, address)?;
         Ok(Sockets {
             rt,
             poll,
-            events: Events::with_capacity(alloc, 1024)?,
+            events,
             listener,
             last: 0,
             ticked,
@@ -93,6 +90,20 @@ impl<'a, R: Net<Stream = net::TcpStream, Listener = net::TcpListener> + Clock> S
         registry.register(&mut stream, Token(number), both_ways)?;
         Ok(stream)
     }
+}
+
+/// A socket that listens at an address, which is waited for.
+fn listen<R: Net<Stream = net::TcpStream, Listener = net::TcpListener>>(
+    rt: &R,
+    poll: &Poll,
+    address: &str,
+) -> anyhow::Result<TcpListener> {
+    let listener = net::TcpListener::bind(rt, address)?;
+    listener.set_nonblocking(true)?;
+    let mut listener = TcpListener::from_std(listener);
+    let (registry, token) = (poll.registry(), Token(0));
+    registry.register(&mut listener, token, Interest::READABLE)?;
+    Ok(listener)
 }
 
 impl<R: Net<Stream = net::TcpStream, Listener = net::TcpListener> + Clock> Connect

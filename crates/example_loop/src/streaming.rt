@@ -150,10 +150,6 @@ impl<R: Role> Streaming<R> {
 }
 
 impl<R: Role> Streaming<R> {
-    pub fn phase(&self) -> Phase {
-        self.inner.phase()
-    }
-
     pub fn has_output(&self) -> bool {
         let has_next = self.source().is_none() && !self.inner.output().is_empty();
         has_next || !self.ahead().is_empty()
@@ -176,8 +172,10 @@ impl<R: Role> Streaming<R> {
         Ok(())
     }
 
-    pub(crate) fn heartbeat(&self) -> u16 {
-        self.inner.heartbeat()
+    /// How many octets wait to be written.
+    pub fn waiting(&self) -> usize {
+        let ahead = self.ahead().len();
+        self.inner.waiting_in_all().saturating_add(ahead)
     }
 
     /// Puts a heartbeat: amid a content after the frames that wait, and else where the connection is open.

@@ -5,7 +5,7 @@ use Rattle.amqp_model.specs.Stream.Endpoint.{Endpoint}
 use Rattle.amqp_core.specs.Asks.Effects.{AcceptsAsk}
 use Rattle.amqp_core.specs.Config.Settings.{config_view, role_for}
 use Rattle.amqp_core.specs.declared.settings.Settings.{Settings}
-use Rattle.example_proxy.specs.AskingView.{closes}
+use Rattle.example_loop.specs.AskingView.{closes}
 
 -- the asks that wait, the oldest first, and the end that is to take them
 pub record Standing : Type 0 where

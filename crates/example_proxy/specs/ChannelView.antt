@@ -5,7 +5,7 @@ use Rattle.amqp_core.specs.Stream.View.{endpoint_of, settings_at}
 use Rattle.amqp_core.specs.declared.roles.Role.{Ghosts}
 use Rattle.amqp_core.specs.declared.stream.StreamEnd.{StreamEnd}
 use Rattle.example_proxy.specs.Advancing.{Standing}
-use Rattle.example_proxy.specs.AskingView.{asking_view}
+use Rattle.example_loop.specs.AskingView.{asking_view}
 use Rattle.example_proxy.specs.declared.asking.Channel.{Channel}
 
 -- the asks that wait, the oldest first

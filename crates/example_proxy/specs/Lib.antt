@@ -1,4 +1,3 @@
 pub mod Advancing
-pub mod AskingView
 pub mod ChannelView
 pub mod Passing

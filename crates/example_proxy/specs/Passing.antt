@@ -8,7 +8,7 @@ use Rattle.amqp_model.specs.Lent.Alike.{LentEvent, WithoutContent, Begins, Heads
 use Rattle.amqp_model.specs.Wire.Contents.{Content}
 use Rattle.amqp_model.specs.Wire.Methods.{Method, MethodKind}
 use Rattle.example_loop.specs.Gathering.{begun, left, whole_of, with_part, with_properties}
-use Rattle.example_proxy.specs.AskingView.{cause_by}
+use Rattle.example_loop.specs.AskingView.{cause_by}
 
 -- a content that is whole is sent on the partner
 abbrev pub sent : (partner : ℕ) → Option Content → Option Ask

@@ -1,63 +1,19 @@
 //! What one side of a relay asks of the other: what an event there asks for, and the channels on which asks wait.
-ghost use Rattle.std.specs.Prelude.{◌≡◌, ◌+◌, ◌++◌, ◌∷◌, [], Some, None, length, true, false, IfOk, OnErr, OnOk};
-ghost use Rattle.amqp_core.specs.Stream.Asks.{StreamAsked};
+ghost use Rattle.std.specs.Prelude.{◌≡◌, ◌+◌, ◌++◌, ◌∷◌, [], Some, length, true, false, IfOk, OnOk};
 ghost use Rattle.amqp_core.specs.Stream.EventRefView.{event_ref_view};
 ghost use Rattle.example_loop.specs.Gathering.{content_there, gathered};
 ghost use Rattle.example_proxy.specs.Advancing.{Advances, Rests, partner_after};
-ghost use Rattle.example_proxy.specs.AskingView.{ask_there, asking_view, closes};
+ghost use Rattle.example_loop.specs.AskingView.{ask_there, asking_view};
 ghost use Rattle.example_proxy.specs.Passing.{after, asked, sent};
 
 use amqp_core::{Ask, AskFault, EventRef, Role, StreamEnd};
-use amqp_method::{Kind, reply};
+use amqp_method::reply;
 use amqp_value::ShortStr;
-use example_loop::{Coming, Content, Heard, alone, may_go_later, octets_of, put_ask};
+use example_loop::{Asking, Coming, Content, Heard, alone, may_go_later};
 use std::alloc::{AllocError, Global};
 use std::collections::VecDeque;
 
-#[derive(Drop)]
-pub enum Asking {
-    /// Of a close: with the kind of the method that it is about, if it names one.
-    Plain(Ask, Option<Kind>),
-    Content(u16, Content),
-}
-
 pub type Asked = anyhow::Result<Option<Asking>>;
-
-impl Asking {
-    pub fn octets(&self) -> usize {
-        match self {
-            Asking::Plain(Ask::Send(_, message), _) => octets_of(message.method()),
-            Asking::Plain(_, _) => 512,
-            Asking::Content(_, content) => content.octets(),
-        }
-    }
-
-    pub fn closes(&self) -> bool
-        ensures { result ≡ closes (asking_view self.now) }
-    {
-        matches!(
-            self,
-            Asking::Plain(Ask::CloseChannel(..) | Ask::Close(..), _)
-        )
-    }
-
-    /// Asks it of an end. An ask that is refused stays as it was.
-    pub fn put<R: Role>(&mut self, end: &mut StreamEnd<R>) -> Result<(), AskFault>
-        ensures asked { StreamAsked end.old (asking_view self.old) result end.new }
-        ensures kept { OnErr result (asking_view self.new ≡ asking_view self.old) }
-    {
-        match self {
-            Asking::Plain(ask, about) => match (&*ask, *about) {
-                (Ask::CloseChannel(channel, code, text), Some(kind)) => {
-                    end.close_channel_for(*channel, *code, text, kind)
-                }
-                (Ask::Close(code, text), Some(kind)) => end.close_for(*code, text, kind),
-                (_, _) => put_ask(end, ask),
-            },
-            Asking::Content(channel, content) => content.send(end, *channel),
-        }
-    }
-}
 
 /// What an event asks of the other side, if anything, where its channel has this number there.
 pub fn asked_by(alloc: Global, coming: &mut Coming, partner: u16, heard: &Heard<'_>) -> Asked
@@ -68,7 +24,10 @@ pub fn asked_by(alloc: Global, coming: &mut Coming, partner: u16, heard: &Heard<
 {
     let ask = match heard.event {
         EventRef::Method(_, method) => Ask::Send(partner, alone(alloc, method)?),
-        EventRef::Begins(_, method) => return coming.begin(alloc, method).map(|()| None),
+        EventRef::Begins(_, method) => {
+            coming.begin(alloc, method)?;
+            return Ok(None);
+        }
         EventRef::Heads(_, head, whole) => return sent(partner, coming.head(alloc, head, whole)?),
         EventRef::Part(_, part, whole) => return sent(partner, coming.add(alloc, part, whole)?),
         EventRef::Flow(_, active) => Ask::Flow(partner, active),
@@ -94,7 +53,10 @@ pub fn asked_by(alloc: Global, coming: &mut Coming, partner: u16, heard: &Heard<
 fn sent(partner: u16, content: Option<Content>) -> Asked
     ensures { IfOk result (λ ask. ask_there ask ≡ sent partner (content_there content)) }
 {
-    Ok(content.map(|content| Asking::Content(partner, content)))
+    match content {
+        Some(content) => Ok(Some(Asking::Content(partner, content))),
+        None => Ok(None),
+    }
 }
 
 /// A channel of one side. Number 0 stands for the connection.

@@ -6,12 +6,13 @@ mod peer;
 
 use crate::peer::{Done, Peer};
 use amqp_core::{Client, Phase, Server};
-use example_loop::{ABILITIES, Connect, Link, MOST, Program, client_end, server_end, word_after};
+use example_loop::{
+    ABILITIES, Connect, Link, MOST, Program, client_end, has_word, key_from, server_end, word_after,
+};
 use mio::event::Event;
 use mio::net::TcpStream;
 use std::alloc::Global;
 use std::collections::BTreeMap;
-use std::env;
 use std::net::SocketAddr;
 use std::process::ExitCode;
 
@@ -22,8 +23,8 @@ Takes clients of AMQP 0-9-1 at the address LISTEN, as 127.0.0.1:5670, and connec
 
 fn main(rt: HostRuntime) -> anyhow::Result<ExitCode> {
     let alloc = rt.alloc();
-    let words: Vec<String> = env::args(&rt)?.collect(alloc)?;
-    let log = words.iter().any(|word| word.as_str() == "--log");
+    let words: Vec<String> = std::env::args(&rt)?.collect(alloc)?;
+    let log = has_word(&words, "--log");
     let user = word_after(&words, "--user");
     let password = word_after(&words, "--password");
     let values = usize::from(user.is_some()) + usize::from(password.is_some());
@@ -54,32 +55,46 @@ impl Relay {
         self.client.link.has_work() || self.broker.link.has_work()
     }
 
-    /// Reads each side once, passes on what came, and writes what the sockets take. What can't be passed on ends both.
-    fn turn(&mut self, rt: &impl Print, ticks: bool, room: &mut [u8]) {
-        let has_failed = self.pass_on(rt, ticks, room).is_err();
-        let (client, broker) = (&mut self.client, &mut self.broker);
-        if has_failed || client.octets(broker).saturating_add(broker.octets(client)) > MOST {
-            client.fail();
-            broker.fail();
+    /// Does what there is to do, and answers whether nothing is left. What can't be passed on ends both sides.
+    fn turn(&mut self, rt: &impl Print, ticks: bool, room: &mut [u8]) -> bool {
+        if ticks || self.has_work() {
+            let (client, broker) = (&mut self.client, &mut self.broker);
+            let has_failed = pass_on(rt, client, broker, ticks, room).is_err();
+            settle(client, broker, has_failed);
         }
-        client.link.is_held = broker.is_full(client);
-        broker.link.is_held = client.is_full(broker);
+        self.client.link.is_done() && self.broker.link.is_done()
     }
+}
 
-    /// What the client said before it left is told to the broker before that is closed, unless half a content went there.
-    fn pass_on(&mut self, rt: &impl Print, ticks: bool, room: &mut [u8]) -> Done {
-        let (client, broker) = (&mut self.client, &mut self.broker);
-        client.pull(rt, broker, room)?;
-        broker.pull(rt, client, room)?;
-        client.answer(broker.link.end.inner.phase() == Phase::Running);
-        let source = broker.link.source();
-        client.advance(true, source)?;
-        broker.advance(source.is_some(), client.link.source())?;
-        client.link.settle(ticks);
-        broker.link.settle(ticks);
-        client.begin(broker)?;
-        broker.begin(client)
+/// Reads each side once, passes on what came, and writes what the sockets take. What the client said before it left is
+/// told to the broker before that is closed, unless half a content went there.
+fn pass_on(
+    rt: &impl Print,
+    client: &mut Peer<Server>,
+    broker: &mut Peer<Client>,
+    ticks: bool,
+    room: &mut [u8],
+) -> Done {
+    client.pull(rt, broker, room)?;
+    broker.pull(rt, client, room)?;
+    client.answer(broker.link.end.inner.phase() == Phase::Running);
+    let source = broker.link.source();
+    client.advance(true, source)?;
+    broker.advance(source.is_some(), client.link.source())?;
+    client.link.settle(ticks);
+    broker.link.settle(ticks);
+    client.begin(broker)?;
+    broker.begin(client)
+}
+
+/// Holds a side for which too much waits at the other, and ends both where they failed.
+fn settle(client: &mut Peer<Server>, broker: &mut Peer<Client>, has_failed: bool) {
+    if has_failed || client.octets(broker).saturating_add(broker.octets(client)) > MOST {
+        client.fail();
+        broker.fail();
     }
+    client.link.is_held = broker.is_full(client);
+    broker.link.is_held = client.is_full(broker);
 }
 
 /// The relays, by the numbers of their clients, which both their sockets have.
@@ -95,7 +110,12 @@ struct Relays<'a> {
 
 impl Program for Relays<'_> {
     fn has_work(&self) -> bool {
-        self.relays.values().any(Relay::has_work)
+        for relay in self.relays.values() {
+            if relay.has_work() {
+                return true;
+            }
+        }
+        false
     }
 
     fn add(&mut self, to: &impl Connect, number: usize, stream: TcpStream) -> Done {
@@ -117,12 +137,18 @@ impl Program for Relays<'_> {
     }
 
     fn turn(&mut self, rt: &impl Print, ticks: bool, room: &mut [u8]) -> Done {
-        self.relays.retain(|_, relay| {
-            if ticks || relay.has_work() {
-                relay.turn(rt, ticks, room);
+        let mut next = 0;
+        for _ in 0..self.relays.len() {
+            let Some(number) = key_from(&self.relays, next) else {
+                break;
+            };
+            if let Some(relay) = self.relays.get_mut(&number)
+                && relay.turn(rt, ticks, room)
+            {
+                drop(self.relays.remove(&number));
             }
-            !relay.client.link.is_done() || !relay.broker.link.is_done()
-        });
+            next = number.saturating_add(1);
+        }
         Ok(())
     }
 }

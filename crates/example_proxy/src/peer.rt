@@ -1,12 +1,12 @@
 //! One side of a relay, the client or the broker: its end with its socket, and its channels.
 ghost use Rattle.std.specs.Prelude.{◌≤◌, IfOk, IfSome, length};
 
-use crate::asking::{Asking, Channel, asked_by};
+use crate::asking::{Channel, asked_by};
 use amqp_core::{Ask, EventRef, Role};
 use amqp_method::reply;
 use amqp_value::ShortStr;
 use anyhow::Result;
-use example_loop::{FULL, Heard, Link, key_from};
+use example_loop::{Asking, FULL, Heard, Link, key_from, let_in};
 use std::alloc::Global;
 use std::collections::BTreeMap;
 
@@ -92,28 +92,41 @@ impl<R: Role> Peer<R> {
 
     /// What is said on a channel of the other side is passed on to this. One that opens there gets a partner here.
     fn hear_of(&mut self, channels: &mut BTreeMap<u16, Channel>, heard: &Heard<'_>) -> Done {
-        let is_source = self.link.source() == Some(heard.number);
-        if let Some(channel) = channels.get_mut(&heard.number) {
-            if is_source && let EventRef::Part(_, part, _) = heard.event {
-                self.link.end.pass(part)?;
-            } else if let Some(partner) = channel.partner
-                && let Some(ask) = asked_by(self.alloc, &mut channel.coming, partner, heard)?
-            {
-                self.push(partner, ask)?;
-            }
-        } else if let EventRef::Opened(number) = heard.event {
-            let partner = self.link.end.inner.open_channel()?;
+        let number = heard.event.channel();
+        let is_source = self.link.source() == Some(number);
+        if let Some(channel) = channels.get_mut(&number) {
+            self.pass(channel, is_source, heard)?;
+        } else if let EventRef::Opened(_) = heard.event {
+            let partner = self.open(number)?;
             drop(channels.insert(number, Channel::new(self.alloc, partner))?);
-            let own = Channel::new(self.alloc, number);
-            drop(self.channels.insert(partner, own)?);
         }
-        if let EventRef::ChannelClosed(number, _) | EventRef::Discarded(number) = heard.event {
+        if let EventRef::ChannelClosed(..) | EventRef::Discarded(_) = heard.event {
             drop(channels.remove(&number));
             if is_source {
                 self.close(reply::CONNECTION_FORCED, "CONNECTION_FORCED")?;
             }
         }
         Ok(())
+    }
+
+    /// Asks what is said on a channel, or sends a part of the content that goes out from there.
+    fn pass(&mut self, channel: &mut Channel, is_source: bool, heard: &Heard<'_>) -> Done {
+        if is_source && let EventRef::Part(_, part, _) = heard.event {
+            self.link.end.pass(part)?;
+        } else if let Some(partner) = channel.partner
+            && let Some(ask) = asked_by(self.alloc, &mut channel.coming, partner, heard)?
+        {
+            self.push(partner, ask)?;
+        }
+        Ok(())
+    }
+
+    /// Opens a channel for one of this number at the other side.
+    fn open(&mut self, partner: u16) -> Result<u16> {
+        let number = self.link.end.inner.open_channel()?;
+        let own = Channel::new(self.alloc, partner);
+        drop(self.channels.insert(number, own)?);
+        Ok(number)
     }
 
     /// Begins a content of the other side that isn't whole, where nothing is before it.
@@ -184,11 +197,11 @@ impl<R: Role> Peer<R> {
     /// Answers a client that logs in. It is let in once the broker has let in the proxy, and refused where it won't.
     pub fn answer(&mut self, lets_in: bool) {
         if lets_in {
-            drop(self.link.end.admit());
+            drop(let_in(&mut self.link.end.inner));
         } else if let Some(all) = self.channels.get(&0)
             && let Some(Asking::Plain(Ask::Close(code, text), _)) = all.waiting.front()
         {
-            drop(self.link.end.refuse(*code, text));
+            drop(self.link.end.inner.refuse(*code, text));
         }
     }
 }

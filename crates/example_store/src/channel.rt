@@ -3,8 +3,8 @@ ghost use Rattle.std.specs.Prelude.{true, false, OnOk};
 ghost use Rattle.example_store.specs.Standing.{Awaits};
 
 use crate::credit::Credit;
-use crate::messages::Content;
-use amqp_method::{HeaderRef, MethodRef, OutOfMemory};
+use crate::messages::{Content, First};
+use amqp_method::{HeaderRef, Method, MethodRef, OutOfMemory};
 use amqp_typed::TypedView;
 use amqp_typed::basic::PublishView;
 use amqp_value::ShortStr;
@@ -48,13 +48,13 @@ pub struct Channel {
     pub consumers: BTreeMap<u64, Consumer>,
     /// by their delivery tags
     unacked: BTreeMap<u64, Delivery>,
-    pub last_tag: u64,
+    last_tag: u64,
     /// The limit of each consumer that is added from now on.
-    pub prefetch: u16,
+    prefetch: u16,
     /// Of all consumers together.
-    pub credit: Credit,
+    credit: Credit,
     /// How many messages were published since the client asked for confirms, if it did.
-    pub published: Option<u64>,
+    published: Option<u64>,
     /// The name of the queue that was declared last.
     pub last_queue: Vec<u8>,
     pub is_flowing: bool,
@@ -132,6 +132,46 @@ impl Channel {
         Rc::get_mut(self.coming.as_mut()?)
     }
 
+    /// The client asks for confirms.
+    pub fn select_confirms(&mut self) {
+        self.published = self.published.or(Some(0));
+    }
+
+    /// One more message was published. It answers the tag under which that is confirmed, if the client asked for that.
+    pub fn count_published(&mut self) -> Option<u64> {
+        let tag = self.published?.saturating_add(1);
+        self.published = Some(tag);
+        Some(tag)
+    }
+
+    /// Limits each consumer that is added from now on, or the whole channel.
+    pub fn limit(&mut self, count: u16, is_global: bool) {
+        if is_global {
+            self.credit.limit = count;
+        } else {
+            self.prefetch = count;
+            self.credit.limit = 0;
+        }
+    }
+
+    /// A consumer is added. As many of its messages may wait to be acknowledged as the client said last.
+    pub fn add_consumer(
+        &mut self,
+        id: u64,
+        queue: u64,
+        tag: &ShortStr,
+        no_ack: bool,
+    ) -> Result<(), OutOfMemory> {
+        let consumer = Consumer {
+            tag: tag.copy()?,
+            queue,
+            no_ack,
+            credit: Credit::new(self.prefetch),
+        };
+        drop(self.consumers.insert(id, consumer)?);
+        Ok(())
+    }
+
     pub fn consumer_with(&self, tag: &[u8]) -> Option<u64> {
         for (id, consumer) in &self.consumers {
             if consumer.tag.as_bytes() == tag {
@@ -153,7 +193,38 @@ impl Channel {
         self.unacked.contains_key(&tag)
     }
 
-    pub fn await_ack(&mut self, tag: u64, delivery: Delivery) -> Result<(), AllocError>
+    /// The first message of a queue is sent, under the next tag: to a consumer, or in answer to basic.get, where so many
+    /// are left. It answers the method that the message is sent with.
+    pub fn send(
+        &mut self,
+        queue: u64,
+        first: First<'_>,
+        consumer: Option<u64>,
+        no_ack: bool,
+    ) -> Result<Method, OutOfMemory> {
+        let content = first.content;
+        let tag = self.last_tag.saturating_add(1);
+        self.last_tag = tag;
+        if !no_ack {
+            let delivery = Delivery {
+                queue,
+                place: first.place,
+                content: content.clone()?,
+                consumer,
+            };
+            self.await_ack(tag, delivery)?;
+        }
+        match self.consumer(consumer) {
+            Some(consumer) => content.deliver(&consumer.tag, tag, first.is_redelivered),
+            None => content.get_ok(tag, first.is_redelivered, first.left),
+        }
+    }
+
+    fn consumer(&self, id: Option<u64>) -> Option<&Consumer> {
+        self.consumers.get(&id?)
+    }
+
+    fn await_ack(&mut self, tag: u64, delivery: Delivery) -> Result<(), AllocError>
         ensures { OnOk result (Awaits self.old self.new tag true) }
     {
         if let Some(id) = delivery.consumer {

@@ -5,6 +5,7 @@ use crate::topic::topic_matches;
 use amqp_typed::exchange::DeclareView;
 use amqp_value::{ShortStr, Table};
 use std::alloc::{AllocError, Global};
+use std::collections::BTreeMap;
 
 /// Which bindings of an exchange a message takes.
 #[derive(Clone, Copy, PartialEq, Eq)]
@@ -13,6 +14,24 @@ pub enum ExchangeType {
     Fanout,
     Topic,
     Headers,
+}
+
+/// The exchanges that are there from the start, with their types.
+const STANDARD: [(&[u8], ExchangeType); 5] = [
+    (b"amq.direct", ExchangeType::Direct),
+    (b"amq.fanout", ExchangeType::Fanout),
+    (b"amq.topic", ExchangeType::Topic),
+    (b"amq.headers", ExchangeType::Headers),
+    (b"amq.match", ExchangeType::Headers),
+];
+
+pub fn standard_exchanges(alloc: Global) -> Result<BTreeMap<Vec<u8>, Exchange>, AllocError> {
+    let mut exchanges = BTreeMap::new(alloc);
+    for (name, kind) in STANDARD.iter() {
+        let name = Vec::from_slice(alloc, name)?;
+        drop(exchanges.insert(name, Exchange::standard(alloc, *kind))?);
+    }
+    Ok(exchanges)
 }
 
 impl ExchangeType {
@@ -75,7 +94,7 @@ pub struct Exchange {
 
 impl Exchange {
     /// One that is there from the start.
-    pub fn standard(alloc: Global, kind: ExchangeType) -> Exchange {
+    fn standard(alloc: Global, kind: ExchangeType) -> Exchange {
         Exchange {
             kind,
             is_durable: true,

@@ -1,17 +1,22 @@
-//! What a broker in memory keeps, but for its connections: messages with the memory that they take, the order in which
-//! those of a queue stand, what was sent on a channel and waits to be acknowledged, exchanges, and users.
+//! A broker in memory without its connections: exchanges, queues, channels and messages, what the methods of clients
+//! make of them, and who may log in.
 #![tactic(auto)]
 
 mod channel;
 mod credit;
+mod declaring;
 mod exchanges;
+mod fault;
 mod headers;
 mod messages;
+mod messaging;
+mod queues;
+mod store;
 mod topic;
 mod users;
 
-pub use crate::channel::{Channel, Consumer, Delivery};
-pub use crate::credit::Credit;
-pub use crate::exchanges::{Binding, Exchange, ExchangeType};
-pub use crate::messages::{Content, Messages};
+pub use crate::channel::Channel;
+pub use crate::fault::{Done, Fault, Result};
+pub use crate::messages::Content;
+pub use crate::store::{Answer, BOUND, Outlet, Place, Store};
 pub use crate::users::Users;

@@ -170,6 +170,17 @@ pub struct Messages {
     ghost ready_came: { (place : ℕ) → is_some (tree.get nat_cmp ready place) ≡ true → place < next },
 }
 
+/// The first message of a queue.
+#[derive(Clone, Copy)]
+pub struct First<'a> {
+    pub place: u64,
+    pub content: &'a Rc<Content>,
+    /// It was sent before.
+    pub is_redelivered: bool,
+    /// How many come after it, as methods have it.
+    pub left: u32,
+}
+
 impl Messages {
     ghost use Rattle.std.specs.Prelude.{false, IfSome, IfNone, OnOk};
     ghost use Rattle.example_store.specs.Ready.{is_ready, IsFirst, Readies};
@@ -200,13 +211,18 @@ impl Messages {
         Ok(())
     }
 
-    /// The message that came first: its place, and whether it was sent before. They are sent in order.
-    pub fn first(&self) -> Option<(u64, &Rc<Content>, bool)>
-        ensures first { IfSome result (λ found. IsFirst self.now found.0) }
+    /// The message that came first. They are sent in order.
+    pub fn first(&self) -> Option<First<'_>>
+        ensures first { IfSome result (λ found. IsFirst self.now found.place) }
         ensures none { IfNone result ((place : ℕ) → is_ready self.now place ≡ false) }
     {
         let (place, content) = self.ready.first_key_value()?;
-        Some((*place, content, *place < self.unsent))
+        Some(First {
+            place: *place,
+            content,
+            is_redelivered: *place < self.unsent,
+            left: self.count().saturating_sub(1),
+        })
     }
 
     /// The message at a place was sent.

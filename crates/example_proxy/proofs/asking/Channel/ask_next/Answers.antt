@@ -2,7 +2,7 @@
 use Rattle.std.proofs.Common.{map, refl, sym, ◌∙◌, ap, subst}
 use Rattle.amqp_core.specs.Stream.View.{endpoint_of, settings_at}
 use Rattle.example_proxy.specs.Advancing.{none_sent, Advances, Rests}
-use Rattle.example_proxy.specs.AskingView.{asking_view}
+use Rattle.example_loop.specs.AskingView.{asking_view}
 use Rattle.example_proxy.specs.ChannelView.{standing}
 use Rattle.example_proxy.proofs.AdvanceLemmas.{same_standing, put_back, asked_err, rests_first, refused_for, sends_one}
 use Rattle.example_proxy.proofs.asking.Channel.ask_next.Goals as goal

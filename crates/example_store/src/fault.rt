@@ -25,12 +25,16 @@ impl<E: Error + Drop> From<E> for Fault {
 /// As much of the text of a close as that takes: why, and of what name, if it is about one.
 pub fn close_text(alloc: Global, code: u16, why: &str, name: &[u8]) -> Result<ShortStr> {
     let kind = reply::reply_name(code).unwrap_or("refused");
-    let name = ShortStr::new(alloc, name)?;
     let text = if name.is_empty() {
         format!(in alloc; "{kind} - {why}")?
     } else {
-        format!(in alloc; "{kind} - {why} {name:?}")?
+        with_name(alloc, kind, why, name)?
     };
     let octets = text.as_bytes();
     Ok(ShortStr::new(alloc, &octets[..octets.len().min(255)])?)
+}
+
+fn with_name(alloc: Global, kind: &str, why: &str, name: &[u8]) -> Result<String> {
+    let name = ShortStr::new(alloc, name)?;
+    Ok(format!(in alloc; "{kind} - {why} {name:?}")?)
 }

@@ -1,33 +1,14 @@
 //! Exchanges: declared, deleted, bound.
-use crate::broker::Broker;
+use crate::exchanges::{Binding, Exchange, ExchangeType};
 use crate::fault::{Done, Result};
-use crate::queues::{Place, QueueId};
+use crate::messages::Content;
+use crate::queues::QueueId;
+use crate::store::{Answer, Place, Store, answer};
 use amqp_method::reply;
 use amqp_typed::{exchange, queue};
 use amqp_value::{ShortStr, TableRef};
-use example_store::{Binding, Content, Exchange, ExchangeType};
-use std::alloc::Global;
-use std::collections::BTreeMap;
 
-/// The exchanges that are there from the start, with their types.
-const STANDARD: [(&[u8], ExchangeType); 5] = [
-    (b"amq.direct", ExchangeType::Direct),
-    (b"amq.fanout", ExchangeType::Fanout),
-    (b"amq.topic", ExchangeType::Topic),
-    (b"amq.headers", ExchangeType::Headers),
-    (b"amq.match", ExchangeType::Headers),
-];
-
-pub fn standard_exchanges(alloc: Global) -> Result<BTreeMap<Vec<u8>, Exchange>> {
-    let mut exchanges = BTreeMap::new(alloc);
-    for (name, kind) in STANDARD.iter() {
-        let name = Vec::from_slice(alloc, name)?;
-        drop(exchanges.insert(name, Exchange::standard(alloc, *kind))?);
-    }
-    Ok(exchanges)
-}
-
-impl Broker {
+impl Store {
     /// Clients neither make nor delete what has no name, or one that begins so.
     pub fn check_not_reserved(&self, name: &[u8]) -> Done {
         if name.is_empty() || name.starts_with(b"amq.") {
@@ -63,7 +44,7 @@ impl Broker {
         }
     }
 
-    pub fn declare_exchange(&mut self, at: Place, declare: exchange::DeclareView<'_>) -> Done {
+    pub fn declare_exchange(&mut self, declare: exchange::DeclareView<'_>) -> Result<Answer> {
         let name = declare.exchange;
         match self.exchanges.get(name) {
             Some(_) if declare.passive => {}
@@ -75,7 +56,7 @@ impl Broker {
             None if declare.passive => return self.no_exchange(name),
             None => self.make_exchange(declare)?,
         }
-        self.send(at, exchange::DeclareOk::new())
+        answer(self.alloc, exchange::DeclareOk::new())
     }
 
     fn make_exchange(&mut self, declare: exchange::DeclareView<'_>) -> Done {
@@ -90,7 +71,7 @@ impl Broker {
         Ok(())
     }
 
-    pub fn delete_exchange(&mut self, at: Place, delete: exchange::DeleteView<'_>) -> Done {
+    pub fn delete_exchange(&mut self, delete: exchange::DeleteView<'_>) -> Result<Answer> {
         let name = delete.exchange;
         self.check_not_reserved(name)?;
         if delete.if_unused
@@ -100,7 +81,7 @@ impl Broker {
             return self.refuse(reply::PRECONDITION_FAILED, "in use", name);
         }
         drop(self.exchanges.remove(name));
-        self.send(at, exchange::DeleteOk::new())
+        answer(self.alloc, exchange::DeleteOk::new())
     }
 
     /// A binding of a queue. Where neither its name nor a key is given, the key is the name of the queue declared last.
@@ -116,10 +97,10 @@ impl Broker {
         })
     }
 
-    pub fn bind_queue(&mut self, at: Place, bind: queue::BindView<'_>) -> Done {
+    pub fn bind_queue(&mut self, at: Place, bind: queue::BindView<'_>) -> Result<Answer> {
         let binding = self.bound(at, bind.queue, bind.routing_key, bind.arguments)?;
         self.add_binding(bind.exchange, binding)?;
-        self.send(at, queue::BindOk::new())
+        answer(self.alloc, queue::BindOk::new())
     }
 
     fn add_binding(&mut self, name: &[u8], binding: Binding) -> Done {
@@ -129,10 +110,10 @@ impl Broker {
         }
     }
 
-    pub fn unbind_queue(&mut self, at: Place, unbind: queue::UnbindView<'_>) -> Done {
+    pub fn unbind_queue(&mut self, at: Place, unbind: queue::UnbindView<'_>) -> Result<Answer> {
         let binding = self.bound(at, unbind.queue, unbind.routing_key, unbind.arguments)?;
         self.remove_binding(unbind.exchange, &binding)?;
-        self.send(at, queue::UnbindOk::new())
+        answer(self.alloc, queue::UnbindOk::new())
     }
 
     fn remove_binding(&mut self, name: &[u8], binding: &Binding) -> Done {

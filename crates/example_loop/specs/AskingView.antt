@@ -5,8 +5,8 @@ use Rattle.amqp_model.specs.End.Closes.{Cause, cause_of, no_cause}
 use Rattle.amqp_model.specs.Wire.Methods.{MethodKind}
 use Rattle.amqp_core.specs.Asks.View.{ask_view}
 use Rattle.example_loop.specs.Gathering.{sent_on}
-use Rattle.example_proxy.specs.declared.asking.Asking.TheVariants as asking
-use Rattle.example_proxy.specs.declared.asking.Asking.{Asking}
+use Rattle.example_loop.specs.declared.asking.Asking.TheVariants as asking
+use Rattle.example_loop.specs.declared.asking.Asking.{Asking}
 
 -- a method of this kind is the cause, if one is
 abbrev pub cause_by : Option MethodKind → Cause

@@ -1,28 +1,26 @@
 //! Queues: how each was declared, its messages, and who consumes them.
-use crate::broker::Broker;
-use crate::connection::Connection;
+use crate::channel::{Channel, Delivery};
 use crate::fault::{Done, Fault, Result};
+use crate::messages::{Content, Messages};
+use crate::store::{Answer, Outlet, Place, ROOM, Store, answer};
 use amqp_method::reply;
 use amqp_typed::queue;
 use amqp_value::ShortStr;
-use example_store::Messages;
+use std::alloc::Global;
 use std::collections::{BTreeMap, VecDeque};
+use std::rc::Rc;
 
 /// Never used again, so what still refers to a queue that is gone finds none.
 pub type QueueId = u64;
 
 pub type Queues = BTreeMap<QueueId, Queue>;
 
-/// The numbers of a connection and of a channel.
-#[derive(Clone, Copy)]
-pub struct Place(pub usize, pub u16);
-
 #[derive(Drop)]
 pub struct Queue {
     pub id: QueueId,
     pub name: ShortStr,
     /// The connection that alone may use the queue, and with which it ends.
-    pub owner: Option<usize>,
+    owner: Option<usize>,
     is_durable: bool,
     is_auto_deleted: bool,
     /// One consumer has the queue for itself.
@@ -33,6 +31,26 @@ pub struct Queue {
 }
 
 impl Queue {
+    /// One that is declared so on a channel.
+    fn new(
+        alloc: Global,
+        id: QueueId,
+        at: Place,
+        declare: queue::DeclareView<'_>,
+        name: &[u8],
+    ) -> Result<Queue> {
+        Ok(Queue {
+            id,
+            name: ShortStr::new(alloc, name)?,
+            owner: declare.exclusive.then_some(at.0),
+            is_durable: declare.durable && !declare.exclusive,
+            is_auto_deleted: declare.auto_delete,
+            is_taken: false,
+            messages: Messages::new(alloc),
+            consumers: VecDeque::new(alloc),
+        })
+    }
+
     /// Whether it was declared in this way. What is exclusive ends with its connection anyway.
     fn is_as(&self, declare: queue::DeclareView<'_>) -> bool {
         self.is_durable == (declare.durable && !declare.exclusive)
@@ -40,7 +58,11 @@ impl Queue {
     }
 
     /// Sends what it can to the consumers, by turns. It answers whether it sent any.
-    pub fn deliver(&mut self, connections: &mut BTreeMap<usize, Connection>) -> bool {
+    pub fn deliver(
+        &mut self,
+        channels: &mut BTreeMap<Place, Channel>,
+        to: &mut impl Outlet,
+    ) -> bool {
         let (mut passed, mut has_sent) = (0, false);
         for _ in 0..u64::MAX {
             if passed >= self.consumers.len() || self.messages.count() == 0 {
@@ -49,26 +71,108 @@ impl Queue {
             self.consumers.rotate_left(1);
             passed += 1;
             if let Some((at, id)) = self.consumers.back().copied()
-                && let Some(connection) = connections.get_mut(&at.0)
-                && connection.has_room()
+                && to.waiting(at.0) <= ROOM
+                && let Some(channel) = channels.get_mut(&at)
             {
-                match connection.offer(self, at.1, id) {
+                match self.offer(channel, at, id, to) {
                     Ok(true) => (passed, has_sent) = (0, true),
                     Ok(false) => {}
-                    Err(_) => connection.link.is_gone = true,
+                    Err(_) => to.give_up(at.0),
                 }
             }
         }
         has_sent
     }
+
+    /// Sends a consumer the first message, if it may have one. It answers whether it did.
+    fn offer(
+        &mut self,
+        channel: &mut Channel,
+        at: Place,
+        id: u64,
+        to: &mut impl Outlet,
+    ) -> Result<bool> {
+        let Some(consumer) = channel.ready_consumer(id) else {
+            return Ok(false);
+        };
+        let no_ack = consumer.no_ack;
+        self.send_first(channel, at, Some(id), no_ack, to)
+    }
+
+    /// Sends the first message, to a consumer or in answer to basic.get. It answers whether there was one.
+    pub fn send_first(
+        &mut self,
+        channel: &mut Channel,
+        at: Place,
+        consumer: Option<u64>,
+        no_ack: bool,
+        to: &mut impl Outlet,
+    ) -> Result<bool> {
+        let Some(first) = self.messages.first() else {
+            return Ok(false);
+        };
+        let method = channel.send(self.id, first, consumer, no_ack)?;
+        to.send(at, &method, first.content)?;
+        let place = first.place;
+        self.messages.remove(place);
+        Ok(true)
+    }
 }
 
-impl Broker {
+/// A message goes to queues.
+pub fn push(queues: &mut Queues, ids: &[QueueId], content: &Rc<Content>) -> Done {
+    for id in ids {
+        if let Some(queue) = queues.get_mut(id) {
+            queue.messages.push(content.clone()?)?;
+        }
+    }
+    Ok(())
+}
+
+/// A message that was sent waits no more: it goes back to its queue, or is done with.
+pub fn done_with(queues: &mut Queues, delivery: Delivery, requeue: bool) -> Done {
+    match queues.get_mut(&delivery.queue) {
+        Some(queue) if requeue => {
+            let Delivery { place, content, .. } = delivery;
+            Ok(queue.messages.put_back(place, content)?)
+        }
+        _ => Ok(drop(delivery)),
+    }
+}
+
+/// A queue has one more consumer.
+pub fn seat(queues: &mut Queues, queue: QueueId, seat: (Place, u64), is_exclusive: bool) -> Done {
+    if let Some(queue) = queues.get_mut(&queue) {
+        queue.consumers.push_back(seat)?;
+        queue.is_taken = is_exclusive;
+    }
+    Ok(())
+}
+
+/// The first queue whose number is at least this, or else the first of all.
+pub fn queue_from(queues: &Queues, id: QueueId) -> Option<QueueId> {
+    match queues.range(id..).next() {
+        Some((id, _)) => Some(*id),
+        None => Some(*queues.first_key_value()?.0),
+    }
+}
+
+/// The exclusive queues of a connection.
+pub fn owned_by(owner: usize, alloc: Global, queues: &Queues) -> Result<Vec<QueueId>> {
+    let mut owned = Vec::new(alloc);
+    for queue in queues.values() {
+        if queue.owner == Some(owner) {
+            owned.push(queue.id)?;
+        }
+    }
+    Ok(owned)
+}
+
+impl Store {
     /// The name of a queue that a method means: an empty one stands for the one declared last on the channel.
     fn queue_name<'a>(&'a self, at: Place, name: &'a [u8]) -> &'a [u8] {
         if name.is_empty()
-            && let Some(connection) = self.connections.get(&at.0)
-            && let Some(channel) = connection.channels.get(&at.1)
+            && let Some(channel) = self.channels.get(&at)
         {
             return &channel.last_queue;
         }
@@ -92,7 +196,7 @@ impl Broker {
         self.refuse(reply::RESOURCE_LOCKED, "another has queue", name)
     }
 
-    pub fn declare_queue(&mut self, at: Place, declare: queue::DeclareView<'_>) -> Done {
+    pub fn declare_queue(&mut self, at: Place, declare: queue::DeclareView<'_>) -> Result<Answer> {
         let is_unnamed = declare.queue.is_empty() && !declare.passive;
         let name = if is_unnamed {
             self.made_up_name("amq.gen")?
@@ -100,7 +204,7 @@ impl Broker {
             ShortStr::new(self.alloc, self.queue_name(at, declare.queue))?
         };
         let (ready, consumers) = self.declare_named(at, declare, &name)?;
-        self.send(at, queue::DeclareOk::new(name, ready, consumers))
+        answer(self.alloc, queue::DeclareOk::new(name, ready, consumers))
     }
 
     /// Declares a queue of this name. It answers how many messages and consumers it has.
@@ -131,26 +235,17 @@ impl Broker {
             self.check_not_reserved(name)?;
         }
         let id = self.next_id()?;
-        let queue = Queue {
-            id,
-            name: ShortStr::new(self.alloc, name)?,
-            owner: declare.exclusive.then_some(at.0),
-            is_durable: declare.durable && !declare.exclusive,
-            is_auto_deleted: declare.auto_delete,
-            is_taken: false,
-            messages: Messages::new(self.alloc),
-            consumers: VecDeque::new(self.alloc),
-        };
+        let queue = Queue::new(self.alloc, id, at, declare, name)?;
         drop(self.queues.insert(id, queue)?);
         let name = Vec::from_slice(self.alloc, name)?;
         self.names.insert(name, id)?;
         Ok(())
     }
 
-    pub fn delete_queue(&mut self, at: Place, delete: queue::DeleteView<'_>) -> Done {
+    pub fn delete_queue(&mut self, at: Place, delete: queue::DeleteView<'_>) -> Result<Answer> {
         let is_there = self.names.contains_key(self.queue_name(at, delete.queue));
         if !is_there {
-            return self.send(at, queue::DeleteOk::new(0));
+            return answer(self.alloc, queue::DeleteOk::new(0));
         }
         let queue = self.queue(at, delete.queue)?;
         let (id, name, ready) = (queue.id, queue.name.as_bytes(), queue.messages.count());
@@ -158,17 +253,17 @@ impl Broker {
             return self.refuse(reply::PRECONDITION_FAILED, "in use: queue", name);
         }
         self.remove_queue(id);
-        self.send(at, queue::DeleteOk::new(ready))
+        answer(self.alloc, queue::DeleteOk::new(ready))
     }
 
-    pub fn purge_queue(&mut self, at: Place, name: &[u8]) -> Done {
+    pub fn purge_queue(&mut self, at: Place, name: &[u8]) -> Result<Answer> {
         let id = self.queue(at, name)?.id;
         let Some(queue) = self.queues.get_mut(&id) else {
             return Err(Fault::GivenUp);
         };
         let ready = queue.messages.count();
         queue.messages.purge();
-        self.send(at, queue::PurgeOk::new(ready))
+        answer(self.alloc, queue::PurgeOk::new(ready))
     }
 
     /// A consumer is gone, and with the last one a queue that deletes itself.
@@ -186,7 +281,7 @@ impl Broker {
     fn forget_queue(&mut self, queue: &Queue) {
         self.names.remove(queue.name.as_bytes());
         for (at, id) in queue.consumers.iter() {
-            if let Ok(channel) = self.channel(*at) {
+            if let Some(channel) = self.channels.get_mut(at) {
                 drop(channel.consumers.remove(id));
             }
         }
