@@ -1,14 +1,14 @@
 //! What the broker does with what the ends of its connections tell.
 use crate::connection::{Asked, Connection};
 use crate::connections::Connections;
-use amqp_core::{Server, StreamEnd};
 use amqp_method::{Kind, MethodRef, reply};
 use amqp_value::ShortStr;
-use example_loop::{Connect, Program, send_plain};
+use example_loop::{Connect, Program, key_from, send_plain};
 use example_store::{Answer, BOUND, Done, Fault, Place, Result, Store, Users};
 use mio::event::Event;
 use mio::net::TcpStream;
 use std::alloc::Global;
+use std::collections::BTreeMap;
 use std::rc::Rc;
 
 #[derive(Drop)]
@@ -27,17 +27,9 @@ impl Broker {
             alloc,
             users: Rc::new(alloc, users)?,
             store: Store::new(alloc)?,
-            connections: Connections::new(alloc),
+            connections: Connections(BTreeMap::new(alloc)),
             is_short: false,
         })
-    }
-
-    fn connection(&mut self, id: usize) -> Result<&mut Connection> {
-        self.connections.get(id)
-    }
-
-    fn end(&mut self, at: Place) -> Result<&mut StreamEnd<Server>> {
-        Ok(self.connection(at.0)?.end())
     }
 
     /// Does what a connection asks for. What can't be done ends it.
@@ -51,7 +43,7 @@ impl Broker {
             let (taken, number, asked) = heard;
             rest = &rest[taken..];
             if self.handle((id, number), asked, &payload).is_err() {
-                self.connection(id)?.link.is_gone = true;
+                self.connections.get(id)?.link.is_gone = true;
             }
         }
         Ok(())
@@ -60,11 +52,15 @@ impl Broker {
     fn handle(&mut self, at: Place, asked: Asked, payload: &[u8]) -> Done {
         match asked {
             Asked::Nothing => Ok(()),
-            Asked::Login => self.connection(at.0)?.login(),
-            Asked::Enter => self.connection(at.0)?.enter(),
+            Asked::Login => self.connections.get(at.0)?.login(),
+            Asked::Enter => self.connections.get(at.0)?.enter(),
             Asked::Open => self.store.open(at),
             Asked::Flow(active) => self.store.set_flow(at, active),
-            Asked::Method => self.tell(at, MethodRef::new(payload)?),
+            Asked::Method => {
+                let method = MethodRef::new(payload)?;
+                let answer = self.store.tell(at, method, &mut self.connections);
+                self.answer(at, method.kind(), answer)
+            }
             Asked::Content => {
                 let answer = self.store.publish(at, &mut self.connections);
                 self.answer(at, Kind::BasicPublish, answer)
@@ -73,15 +69,10 @@ impl Broker {
         }
     }
 
-    fn tell(&mut self, at: Place, method: MethodRef<'_>) -> Done {
-        let answer = self.store.tell(at, method, &mut self.connections);
-        self.answer(at, method.kind(), answer)
-    }
-
     /// Answers a method, or closes for it where it is refused. What the client wants no answer to isn't answered.
     fn answer(&mut self, at: Place, kind: Kind, answer: Result<Answer>) -> Done {
         match answer {
-            Ok(Some(method)) => Ok(send_plain(self.end(at)?, at.1, method)?),
+            Ok(Some(method)) => Ok(send_plain(self.connections.get(at.0)?.end(), at.1, method)?),
             Ok(None) => Ok(()),
             Err(Fault::Refused(code, text)) => self.close_for(at, code, &text, kind),
             Err(Fault::GivenUp) => Err(Fault::GivenUp),
@@ -90,22 +81,23 @@ impl Broker {
 
     /// Closes the channel for a method that is refused, or the connection where the error is a hard one.
     fn close_for(&mut self, at: Place, code: u16, text: &ShortStr, kind: Kind) -> Done {
+        let end = self.connections.get(at.0)?.end();
         if reply::is_hard(code) {
             self.store.close_channels(at.0)?;
-            return Ok(self.end(at)?.close_for(code, text, kind)?);
+            return Ok(end.close_for(code, text, kind)?);
         }
         self.store.close_channel(at)?;
-        Ok(self.end(at)?.close_channel_for(at.1, code, text, kind)?)
+        Ok(end.close_channel_for(at.1, code, text, kind)?)
     }
 
     /// A connection has its turn.
     fn serve(&mut self, id: usize, ticks: bool, room: &mut [u8]) -> Done {
         let is_short = self.is_short;
-        let count = self.connection(id)?.turn(is_short, ticks, room);
+        let count = self.connections.get(id)?.turn(is_short, ticks, room);
         self.hear(id, &room[..count])?;
-        if self.connection(id)?.link.is_done() {
+        if self.connections.get(id)?.link.is_done() {
             self.store.close_connection(id)?;
-            self.connections.remove(id);
+            drop(self.connections.0.remove(&id));
         }
         Ok(())
     }
@@ -113,12 +105,18 @@ impl Broker {
 
 impl Program for Broker {
     fn has_work(&self) -> bool {
-        self.connections.have_work()
+        for connection in self.connections.0.values() {
+            if connection.link.has_work() || connection.link.is_done() {
+                return true;
+            }
+        }
+        false
     }
 
     fn add(&mut self, _: &impl Connect, number: usize, stream: TcpStream) -> anyhow::Result<()> {
         let connection = Connection::new(self.alloc, self.users.clone()?, number, stream)?;
-        self.connections.add(number, connection)
+        drop(self.connections.0.insert(number, connection)?);
+        Ok(())
     }
 
     fn note(&mut self, number: usize, event: &Event) {
@@ -132,8 +130,8 @@ impl Program for Broker {
         let bound = if self.is_short { BOUND / 4 * 3 } else { BOUND };
         self.is_short = self.store.held() > bound;
         let mut next = 0;
-        for _ in 0..self.connections.len() {
-            let Some(id) = self.connections.first_from(next) else {
+        for _ in 0..self.connections.0.len() {
+            let Some(id) = key_from(&self.connections.0, next) else {
                 break;
             };
             drop(self.serve(id, ticks, room));

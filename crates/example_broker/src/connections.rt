@@ -1,62 +1,24 @@
 //! All connections, by their numbers.
 use crate::connection::Connection;
 use amqp_method::Method;
-use example_loop::key_from;
 use example_store::{Content, Done, Fault, Outlet, Place, Result};
-use std::alloc::Global;
 use std::collections::BTreeMap;
 
 #[derive(Drop)]
-pub struct Connections {
-    all: BTreeMap<usize, Connection>,
-}
+pub struct Connections(pub BTreeMap<usize, Connection>);
 
 impl Connections {
-    pub fn new(alloc: Global) -> Connections {
-        Connections {
-            all: BTreeMap::new(alloc),
-        }
-    }
-
-    pub fn len(&self) -> usize {
-        self.all.len()
-    }
-
-    /// The first number of a connection that is at least this.
-    pub fn first_from(&self, id: usize) -> Option<usize> {
-        key_from(&self.all, id)
-    }
-
     pub fn get(&mut self, id: usize) -> Result<&mut Connection> {
-        match self.all.get_mut(&id) {
+        match self.0.get_mut(&id) {
             Some(connection) => Ok(connection),
             None => Err(Fault::GivenUp),
         }
-    }
-
-    pub fn add(&mut self, id: usize, connection: Connection) -> anyhow::Result<()> {
-        drop(self.all.insert(id, connection)?);
-        Ok(())
-    }
-
-    pub fn remove(&mut self, id: usize) {
-        drop(self.all.remove(&id));
-    }
-
-    /// Whether there is something to do at once.
-    pub fn have_work(&self) -> bool {
-        for connection in self.all.values() {
-            if connection.link.has_work() || connection.link.is_done() {
-                return true;
-            }
-        }
-        false
     }
 }
 
 impl Outlet for Connections {
     fn waiting(&self, connection: usize) -> usize {
-        match self.all.get(&connection) {
+        match self.0.get(&connection) {
             Some(connection) => connection.waiting(),
             None => usize::MAX,
         }
@@ -69,7 +31,7 @@ impl Outlet for Connections {
     }
 
     fn give_up(&mut self, connection: usize) {
-        if let Some(connection) = self.all.get_mut(&connection) {
+        if let Some(connection) = self.0.get_mut(&connection) {
             connection.link.is_gone = true;
         }
     }
