@@ -86,7 +86,7 @@ impl Connection {
             return Some((taken, 0, Asked::Nothing));
         };
         let number = heard.event.channel();
-        let channel = store.open_channel((self.number, number));
+        let channel = store.channel((self.number, number)).ok();
         let asked = asked_by(heard.event, channel, &self.unfinished, payload);
         self.link.is_gone |= asked.is_err();
         let asked = asked.unwrap_or(Asked::Nothing);
@@ -141,10 +141,7 @@ impl Connection {
         // refused where the connection closes, and then the client needn't know
         drop(self.block(self.publishes));
         self.link.is_gone |= unfinished > BOUND;
-        if has_ticked {
-            self.link.tick();
-        }
-        self.link.write();
+        self.link.settle(has_ticked);
         self.link.is_held = self.is_blocked || self.waiting() > FULL;
         self.link.read(room)
     }

@@ -6,7 +6,7 @@ mod connection;
 mod connections;
 
 use crate::broker::Broker;
-use example_loop::serve;
+use example_loop::{has_word, serve};
 use example_store::Users;
 use std::alloc::Global;
 use std::process::ExitCode;
@@ -23,7 +23,7 @@ fn main(rt: HostRuntime) -> anyhow::Result<ExitCode> {
     let alloc = rt.alloc();
     let words: Vec<String> = env::args(&rt)?.collect(alloc)?;
     let Some((file, address)) = named_by(&words) else {
-        if words.len() == 2 && words[1].as_str() == "--help" {
+        if has_word(&words, "--help") {
             println!(rt; "{HELP}")?;
             return Ok(ExitCode::SUCCESS);
         }

@@ -107,7 +107,7 @@ impl<R: Role> Link<R> {
     }
 
     /// Writes once what waits, as far as the socket takes it.
-    pub fn write(&mut self) {
+    fn write(&mut self) {
         if self.is_gone || !self.end.has_output() {
             return;
         }
@@ -128,7 +128,7 @@ impl<R: Role> Link<R> {
 
     /// Half a second passed: puts a heartbeat if one is due, and gives up a peer that fell silent though it is read.
     /// In the handshake and in a close a peer may be silent for half a minute.
-    pub fn tick(&mut self) {
+    fn tick(&mut self) {
         let (came, went) = self.end.counts();
         self.pulse.tick(came, went, !self.is_held);
         let heartbeat = match self.end.inner.phase() {

@@ -129,24 +129,13 @@ impl Store {
         if to.waiting(at.0) > BOUND {
             return self.refuse(reply::RESOURCE_ERROR, "too much is not read", b"");
         }
-        if self.fetch(at, id, get.no_ack, to)? {
+        if let Some(queue) = self.queues.get_mut(&id)
+            && let Some(channel) = self.channels.get_mut(&at)
+            && queue.send_first(channel, at, None, get.no_ack, to)?
+        {
             return Ok(None);
         }
         answer(self.alloc, basic::GetEmpty::new())
-    }
-
-    /// Sends the first message of a queue, if there is one. It answers whether there was.
-    fn fetch(
-        &mut self,
-        at: Place,
-        id: QueueId,
-        no_ack: bool,
-        to: &mut impl Outlet,
-    ) -> Result<bool> {
-        match (self.queues.get_mut(&id), self.channels.get_mut(&at)) {
-            (Some(queue), Some(channel)) => queue.send_first(channel, at, None, no_ack, to),
-            _ => Ok(false),
-        }
     }
 
     /// Settles one message, or with `multiple` all up to it, where 0 stands for the last.

@@ -97,12 +97,8 @@ impl Store {
         Ok(ShortStr::text(self.alloc, name.as_str())?)
     }
 
-    /// A channel, if it is open.
-    pub fn open_channel(&mut self, at: Place) -> Option<&mut Channel> {
-        self.channels.get_mut(&at)
-    }
-
-    pub(crate) fn channel(&mut self, at: Place) -> Result<&mut Channel> {
+    /// A channel that is open.
+    pub fn channel(&mut self, at: Place) -> Result<&mut Channel> {
         match self.channels.get_mut(&at) {
             Some(channel) => Ok(channel),
             None => Err(Fault::GivenUp),
