@@ -6,7 +6,7 @@ use std::error::Error;
 
 #[derive(Drop)]
 pub enum Fault {
-    /// The client is told by a close, with this code and this text.
+    /// Its channel or connection is closed with this code and this text.
     Refused(u16, ShortStr),
     /// The connection is given up: there is no memory, or its end refuses what is to be said.
     GivenUp,

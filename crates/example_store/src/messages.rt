@@ -159,17 +159,6 @@ impl Drop for Share {
     }
 }
 
-/// The messages of a queue that are ready. Each has a place, which says when it came.
-#[derive(Drop)]
-pub struct Messages {
-    ready: BTreeMap<u64, Rc<Content>>,
-    /// the place of the next that comes
-    next: u64,
-    /// the first place that was never sent: of those before it, all were
-    unsent: u64,
-    ghost ready_came: { (place : ℕ) → is_some (tree.get nat_cmp ready place) ≡ true → place < next },
-}
-
 /// The first message of a queue.
 #[derive(Clone, Copy)]
 pub struct First<'a> {
@@ -179,6 +168,17 @@ pub struct First<'a> {
     pub is_redelivered: bool,
     /// How many come after it, as methods have it.
     pub left: u32,
+}
+
+/// The messages of a queue that are ready. Each has a place, which says when it came.
+#[derive(Drop)]
+pub struct Messages {
+    ready: BTreeMap<u64, Rc<Content>>,
+    /// the place of the next that comes
+    next: u64,
+    /// the first place that was never sent: of those before it, all were
+    unsent: u64,
+    ghost ready_came: { (place : ℕ) → is_some (tree.get nat_cmp ready place) ≡ true → place < next },
 }
 
 impl Messages {
