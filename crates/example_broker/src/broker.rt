@@ -66,6 +66,7 @@ impl Broker {
                 self.answer(at, Kind::BasicPublish, answer)
             }
             Asked::Close => self.store.close_channel(at),
+            Asked::TooMuch => Err(Fault::GivenUp),
         }
     }
 

@@ -27,6 +27,8 @@ pub enum Asked {
     /// By a content that is whole.
     Content,
     Close,
+    /// There is no memory for what came.
+    TooMuch,
 }
 
 pub type Heard = std::result::Result<Asked, OutOfMemory>;
@@ -68,7 +70,7 @@ impl Connection {
     }
 
     pub fn end(&mut self) -> &mut StreamEnd<Server> {
-        &mut self.link.end.inner
+        self.link.end.inner_mut()
     }
 
     /// Takes octets up to the end of a frame, and answers how many, and what the frame asks on which channel. The payload
@@ -87,16 +89,17 @@ impl Connection {
         };
         let number = heard.event.channel();
         let channel = store.channel((self.number, number)).ok();
-        let asked = asked_by(heard.event, channel, &self.unfinished, payload);
-        self.link.is_gone |= asked.is_err();
-        let asked = asked.unwrap_or(Asked::Nothing);
+        let asked = match asked_by(heard.event, channel, &self.unfinished, payload) {
+            Ok(asked) => asked,
+            Err(_) => Asked::TooMuch,
+        };
         self.publishes |= matches!(asked, Asked::Content);
         Some((taken, number, asked))
     }
 
     pub fn login(&mut self) -> Done {
         let mut is_user = None;
-        if let Some(start) = self.link.end.inner.heard(Kind::ConnectionStartOk)
+        if let Some(start) = self.link.end.inner().heard(Kind::ConnectionStartOk)
             && let Some(start) = StartOkRef::from_ref(start)
         {
             is_user = self.users.allow(self.alloc, &start);
@@ -108,7 +111,7 @@ impl Connection {
     /// Lets a client into the virtual host.
     pub fn enter(&mut self) -> Done {
         let mut is_host = None;
-        if let Some(open) = self.link.end.inner.heard(Kind::ConnectionOpen)
+        if let Some(open) = self.link.end.inner().heard(Kind::ConnectionOpen)
             && let Some(open) = OpenRef::from_ref(open)
         {
             is_host = Some(open.virtual_host.as_bytes() == b"/".as_slice());
@@ -138,24 +141,24 @@ impl Connection {
     {
         let unfinished = self.unfinished.get();
         self.publishes = is_short && (self.publishes || unfinished > 0);
-        // refused where the connection closes, and then the client needn't know
-        drop(self.block(self.publishes));
+        self.block(self.publishes);
         self.link.is_gone |= unfinished > BOUND;
         self.link.settle(has_ticked);
         self.link.is_held = self.is_blocked || self.waiting() > FULL;
         self.link.read(room)
     }
 
-    /// A client that isn't read is told so, if it wants to be.
-    fn block(&mut self, is_blocked: bool) -> Done {
+    /// A client that isn't read is told so, if it wants to be. It need not know where its connection closes.
+    fn block(&mut self, is_blocked: bool) {
         let was_blocked = replace(&mut self.is_blocked, is_blocked);
-        if self.hears_blocked && is_blocked && !was_blocked {
-            let reason = ShortStr::text(self.alloc, "low on memory")?;
-            self.end().blocked(&reason)?;
-        } else if self.hears_blocked && was_blocked && !is_blocked {
-            self.end().unblocked()?;
+        if was_blocked == is_blocked || !self.hears_blocked {
+            return;
         }
-        Ok(())
+        if !is_blocked {
+            drop(self.end().unblocked());
+        } else if let Ok(reason) = ShortStr::text(self.alloc, "low on memory") {
+            drop(self.end().blocked(&reason));
+        }
     }
 }
 

@@ -22,30 +22,24 @@ Exchanges, queues and messages are kept in memory, and are gone when the program
 fn main(rt: HostRuntime) -> anyhow::Result<ExitCode> {
     let alloc = rt.alloc();
     let words: Vec<String> = env::args(&rt)?.collect(alloc)?;
-    let Some((file, address)) = named_by(&words) else {
-        if has_word(&words, "--help") {
-            println!(rt; "{HELP}")?;
-            return Ok(ExitCode::SUCCESS);
-        }
+    if has_word(&words, "--help") {
+        println!(rt; "{HELP}")?;
+        return Ok(ExitCode::SUCCESS);
+    }
+    let has_file = words.len() == 4 && words[1].as_str() == "--users";
+    let has_none = words.len() == 2 && !words[1].as_str().starts_with("-");
+    if !has_file && !has_none {
         eprintln!(rt; "{HELP}")?;
         return Ok(ExitCode::from(2));
-    };
-    let text = match file {
-        Some(file) => fs::read_to_string(&rt, file.as_str())?,
-        None => String::from_str(alloc, "guest:guest")?,
+    }
+    let text = if has_file {
+        fs::read_to_string(&rt, words[2].as_str())?
+    } else {
+        String::from_str(alloc, "guest:guest")?
     };
     let mut broker = set_up(alloc, text)?;
-    serve(&rt, alloc, address.as_str(), &mut broker)?;
+    serve(&rt, alloc, words[words.len() - 1].as_str(), &mut broker)?;
     Ok(ExitCode::SUCCESS)
-}
-
-/// The file with the users, if one is given, and the address.
-fn named_by(words: &[String]) -> Option<(Option<&String>, &String)> {
-    match words {
-        [_, address] if !address.as_str().starts_with("-") => Some((None, address)),
-        [_, option, file, address] if option.as_str() == "--users" => Some((Some(file), address)),
-        _ => None,
-    }
 }
 
 fn set_up(alloc: Global, users: String) -> anyhow::Result<Broker> {

@@ -14,7 +14,7 @@ cause_by (Some kind) = cause_of kind
 cause_by None = no_cause
 
 -- a close is about a method of this kind, or about none
-abbrev about_kind : Option MethodKind → Ask → Ask
+abbrev pub about_kind : Option MethodKind → Ask → Ask
 about_kind about (CloseChannel channel code text cause) = CloseChannel channel code text (cause_by about)
 about_kind about (Close code text cause) = Close code text (cause_by about)
 about_kind about ask = ask

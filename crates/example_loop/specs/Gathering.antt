@@ -13,7 +13,7 @@ use Rattle.example_loop.specs.declared.contents.Content.{Content}
 abbrev pub content_view : Content → contents.Content
 content_view content = record {
   method = carrier_view content.method;
-  properties = properties_view content.header.properties;
+  properties = properties_view content.header.value.properties;
   body = content.body;
 }
 

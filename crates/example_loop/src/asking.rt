@@ -1,8 +1,8 @@
 //! Asks that are passed on as they stand.
-ghost use Rattle.std.specs.Prelude.{◌≡◌, OnErr};
+ghost use Rattle.std.specs.Prelude.{◌≡◌, Some, OnErr};
 ghost use Rattle.amqp_core.specs.Asks.View.{ask_view};
 ghost use Rattle.amqp_core.specs.Stream.Asks.{StreamAsked};
-ghost use Rattle.example_loop.specs.AskingView.{asking_view, closes};
+ghost use Rattle.example_loop.specs.AskingView.{about_kind, asking_view, closes};
 
 use crate::contents::{Content, octets_of};
 use amqp_core::{Ask, AskFault, Role, StreamEnd};
@@ -40,15 +40,25 @@ impl Asking {
         ensures kept { OnErr result (asking_view self.new ≡ asking_view self.old) }
     {
         match self {
-            Asking::Plain(ask, about) => match (&*ask, *about) {
-                (Ask::CloseChannel(channel, code, text), Some(kind)) => {
-                    end.close_channel_for(*channel, *code, text, kind)
-                }
-                (Ask::Close(code, text), Some(kind)) => end.close_for(*code, text, kind),
-                (_, _) => put_ask(end, ask),
+            Asking::Plain(ask, about) => match *about {
+                Some(kind) => put_about(end, ask, kind),
+                None => put_ask(end, ask),
             },
             Asking::Content(channel, content) => content.send(end, *channel),
         }
+    }
+}
+
+/// Asks something of an end, a close for a method of this kind.
+fn put_about<R: Role>(end: &mut StreamEnd<R>, ask: &Ask, kind: Kind) -> Result<(), AskFault>
+    ensures { StreamAsked end.old (about_kind (Some kind) (ask_view ask.now)) result end.new }
+{
+    match ask {
+        Ask::CloseChannel(channel, code, text) => {
+            end.close_channel_for(*channel, *code, text, kind)
+        }
+        Ask::Close(code, text) => end.close_for(*code, text, kind),
+        _ => put_ask(end, ask),
     }
 }
 

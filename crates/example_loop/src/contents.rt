@@ -14,19 +14,19 @@ use std::alloc::{AllocError, Global};
 /// A content that is whole. Each part of its body is let go as it is sent, so that no body is in memory twice.
 pub struct Content {
     method: Carrier,
-    header: Header,
+    /// In a box, since it is large.
+    header: Box<Header>,
     body: Chunks,
 }
 
-/// Written out, so that it is proved once. The header, which is large, is dropped by a call.
+/// Written out, so that it is proved once.
 impl Drop for Content {
     fn drop(self) {
         let Content {
             method: _,
-            header,
+            header: _,
             body: _,
         } = self;
-        drop(header);
     }
 }
 
@@ -49,8 +49,9 @@ impl Content {
 
     /// Begins to send it, if it has a body and may begin now, and answers whether it did.
     fn begin_on<R: Role>(&self, end: &mut Streaming<R>, channel: u16, source: u16) -> bool {
-        let (method, properties) = (self.method.method(), &self.header.properties);
-        let size = self.header.body_size;
+        let header: &Header = &self.header;
+        let (method, properties) = (self.method.method(), &header.properties);
+        let size = header.body_size;
         size > 0 && end.begin(channel, source, method, properties, size).is_ok()
     }
 
@@ -99,7 +100,7 @@ impl Coming {
         }
         self.content = Some(Content {
             method: Carrier::new(method.to_owned(alloc)?),
-            header: Header::default(),
+            header: Box::new(alloc, Header::default())?,
             body: Chunks::new(alloc),
         });
         Ok(())
@@ -149,8 +150,8 @@ impl Coming {
             && content.begin_on(end, channel, source)
         {
             let body = content.joined(alloc)?;
-            end.pass(&body)?;
-            drop(self.content.take());
+            end.ahead.pass(&body)?;
+            self.content = None;
         }
         Ok(())
     }

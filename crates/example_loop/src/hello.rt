@@ -73,13 +73,18 @@ fn properties(alloc: Global, product: &str, abilities: &[&str]) -> Result<Table,
     Ok(properties)
 }
 
-/// What the ends of these programs are set up with.
-fn config<R: Role>(hello: R::Hello, gated: bool) -> Config<R> {
+/// An end that says this of itself. One that is gated tells of each login, and lets nobody in by itself.
+fn new_end<R: Role>(
+    alloc: Global,
+    hello: R::Hello,
+    gated: bool,
+) -> anyhow::Result<Box<StreamEnd<R>>> {
     let mut config = Config::new(hello);
     config.gated = gated;
     config.max_body = MAX_BODY;
     config.heartbeat = HEARTBEAT;
-    config
+    let end = End::new(alloc, config)?;
+    Ok(Box::new(alloc, end.into_stream())?)
 }
 
 /// A server that looks at each login itself, by PLAIN or AMQPLAIN. It is a program of this name, with these abilities.
@@ -93,8 +98,7 @@ pub fn server_end(
         mechanisms: Vec::from_slice(alloc, b"PLAIN AMQPLAIN")?,
         locales: Vec::from_slice(alloc, b"en_US")?,
     };
-    let end = End::new(alloc, config(hello, true))?;
-    Ok(Box::new(alloc, end.into_stream())?)
+    new_end(alloc, hello, true)
 }
 
 /// A client likewise, which logs in by PLAIN, and goes to the virtual host `/`.
@@ -107,8 +111,7 @@ pub fn client_end(
 ) -> anyhow::Result<Box<StreamEnd<Client>>> {
     let response = format!(in alloc; "\0{user}\0{password}")?.into_bytes();
     let hello = client_hello(alloc, product, abilities, response)?;
-    let end = End::new(alloc, config(hello, false))?;
-    Ok(Box::new(alloc, end.into_stream())?)
+    new_end(alloc, hello, false)
 }
 
 fn client_hello(

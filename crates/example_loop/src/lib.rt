@@ -2,6 +2,7 @@
 //! parts, and a hello.
 #![tactic(auto)]
 
+mod ahead;
 mod asking;
 mod contents;
 mod hello;

@@ -71,7 +71,7 @@ impl<R: Role> Link<R> {
 
     /// Whether nothing more is heard of the peer: the end is closed or has failed, or the peer is gone.
     pub fn is_over(&self) -> bool {
-        self.is_gone || matches!(self.end.inner.phase(), Phase::Closed | Phase::Failed)
+        self.is_gone || matches!(self.end.inner().phase(), Phase::Closed | Phase::Failed)
     }
 
     /// Whether nothing is left to do.
@@ -131,8 +131,9 @@ impl<R: Role> Link<R> {
     fn tick(&mut self) {
         let (came, went) = self.end.counts();
         self.pulse.tick(came, went, !self.is_held);
-        let heartbeat = match self.end.inner.phase() {
-            Phase::Running => self.end.inner.heartbeat(),
+        let end = self.end.inner();
+        let heartbeat = match end.phase() {
+            Phase::Running => end.heartbeat(),
             _ => 15,
         };
         if heartbeat > 0 && self.pulse.is_over(heartbeat) {
@@ -159,21 +160,18 @@ impl<R: Role> Link<R> {
         if octets.is_empty() || self.is_over() {
             return None;
         }
-        let Ok(step) = self.end.inner.advance(octets) else {
+        let end = self.end.inner_mut();
+        let Ok(step) = end.advance(octets) else {
             return None;
         };
-        let (taken, about) = (step.octets, self.closed_for());
-        match self.end.inner.event(step) {
-            Some(event) => Some((taken, Some(Heard { event, about }))),
-            None => Some((taken, None)),
-        }
-    }
-
-    /// The kind of the method that a close is about, if it names one.
-    fn closed_for(&self) -> Option<Kind> {
-        match self.end.inner.closed_for() {
+        let taken = step.octets;
+        let about = match end.closed_for() {
             Some(cause) => cause.kind(),
             None => None,
+        };
+        match end.event(step) {
+            Some(event) => Some((taken, Some(Heard { event, about }))),
+            None => Some((taken, None)),
         }
     }
 }

@@ -67,6 +67,8 @@ pub struct Channel {
     pub coming: Coming,
     /// what its end is still to be asked, the oldest first: it isn't open yet, is paused, or owes a reply
     pub waiting: VecDeque<Asking>,
+    /// about how many octets that takes
+    pub octets: usize,
 }
 
 impl Channel {
@@ -80,6 +82,7 @@ impl Channel {
             partner: Some(partner),
             coming: Coming::new(),
             waiting: VecDeque::new(alloc),
+            octets: 0,
         }
     }
 
@@ -92,16 +95,9 @@ impl Channel {
             self.partner = None;
             self.coming = Coming::new();
         }
+        self.octets = self.octets.saturating_add(asking.octets());
         self.waiting.push_back(asking)?;
         Ok(())
-    }
-
-    pub fn octets(&self) -> usize {
-        let mut octets: usize = 0;
-        for asking in &self.waiting {
-            octets = octets.saturating_add(asking.octets());
-        }
-        octets
     }
 
     /// Asks what waits, in order, until the end refuses an ask for now or none is left; a close only if it may go.
@@ -126,7 +122,9 @@ impl Channel {
         let Some(mut next) = self.waiting.pop_front() else {
             return Ok(false);
         };
+        let octets = next.octets();
         let Err(fault) = next.put(end) else {
+            self.octets = self.octets.saturating_sub(octets);
             drop(next);
             return Ok(true);
         };

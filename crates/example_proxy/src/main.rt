@@ -60,7 +60,12 @@ impl Relay {
         if ticks || self.has_work() {
             let (client, broker) = (&mut self.client, &mut self.broker);
             let has_failed = pass_on(rt, client, broker, ticks, room).is_err();
-            settle(client, broker, has_failed);
+            if has_failed || client.octets(broker).saturating_add(broker.octets(client)) > MOST {
+                client.fail();
+                broker.fail();
+            }
+            client.link.is_held = broker.is_full(client);
+            broker.link.is_held = client.is_full(broker);
         }
         self.client.link.is_done() && self.broker.link.is_done()
     }
@@ -77,7 +82,7 @@ fn pass_on(
 ) -> Done {
     client.pull(rt, broker, room)?;
     broker.pull(rt, client, room)?;
-    client.answer(broker.link.end.inner.phase() == Phase::Running);
+    client.answer(broker.link.end.inner().phase() == Phase::Running);
     let source = broker.link.source();
     client.advance(true, source)?;
     broker.advance(source.is_some(), client.link.source())?;
@@ -85,16 +90,6 @@ fn pass_on(
     broker.link.settle(ticks);
     client.begin(broker)?;
     broker.begin(client)
-}
-
-/// Holds a side for which too much waits at the other, and ends both where they failed.
-fn settle(client: &mut Peer<Server>, broker: &mut Peer<Client>, has_failed: bool) {
-    if has_failed || client.octets(broker).saturating_add(broker.octets(client)) > MOST {
-        client.fail();
-        broker.fail();
-    }
-    client.link.is_held = broker.is_full(client);
-    broker.link.is_held = client.is_full(broker);
 }
 
 /// The relays, by the numbers of their clients, which both their sockets have.
@@ -110,21 +105,16 @@ struct Relays<'a> {
 
 impl Program for Relays<'_> {
     fn has_work(&self) -> bool {
-        for relay in self.relays.values() {
-            if relay.has_work() {
-                return true;
-            }
-        }
-        false
+        self.relays.values().any(Relay::has_work)
     }
 
     fn add(&mut self, to: &impl Connect, number: usize, stream: TcpStream) -> Done {
         let alloc = self.alloc;
         let client = server_end(alloc, "example_proxy", &ABILITIES)?;
-        let client = Peer::new(alloc, Link::new(alloc, stream, client), self.log)?;
+        let client = Peer::new(alloc, Link::new(alloc, stream, client), self.log);
         let stream = to.connect(number, self.broker)?;
         let broker = client_end(alloc, "example_proxy", &ABILITIES, self.user, self.password)?;
-        let broker = Peer::new(alloc, Link::new(alloc, stream, broker), self.log)?;
+        let broker = Peer::new(alloc, Link::new(alloc, stream, broker), self.log);
         drop(self.relays.insert(number, Relay { client, broker })?);
         Ok(())
     }

@@ -12,33 +12,52 @@ use std::collections::BTreeMap;
 
 pub type Done = Result<()>;
 
+/// The channels of one side, by their numbers.
+#[derive(Drop)]
+struct Channels {
+    /// Number 0, which stands for the connection.
+    connection: Channel,
+    open: BTreeMap<u16, Channel>,
+}
+
+impl Channels {
+    fn get_mut(&mut self, number: u16) -> Option<&mut Channel> {
+        if number == 0 {
+            return Some(&mut self.connection);
+        }
+        self.open.get_mut(&number)
+    }
+}
+
 #[derive(Drop)]
 pub struct Peer<R: Role> {
     alloc: Global,
     pub link: Link<R>,
-    channels: BTreeMap<u16, Channel>,
+    channels: Channels,
     log: bool,
 }
 
 impl<R: Role> Peer<R> {
-    pub fn new(alloc: Global, link: Link<R>, log: bool) -> Result<Peer<R>> {
-        let mut channels = BTreeMap::new(alloc);
-        drop(channels.insert(0, Channel::new(alloc, 0))?);
-        Ok(Peer {
+    pub fn new(alloc: Global, link: Link<R>, log: bool) -> Peer<R> {
+        Peer {
             alloc,
             link,
-            channels,
+            channels: Channels {
+                connection: Channel::new(alloc, 0),
+                open: BTreeMap::new(alloc),
+            },
             log,
-        })
+        }
     }
 
     /// About how many octets wait for it, or are gathered for it at the other side.
     pub fn octets<P: Role>(&self, from: &Peer<P>) -> usize {
-        let mut octets = self.link.end.waiting();
-        for channel in self.channels.values() {
-            octets = octets.saturating_add(channel.octets());
+        let asks = self.channels.connection.octets;
+        let mut octets = self.link.end.waiting().saturating_add(asks);
+        for channel in self.channels.open.values() {
+            octets = octets.saturating_add(channel.octets);
         }
-        for channel in from.channels.values() {
+        for channel in from.channels.open.values() {
             octets = octets.saturating_add(channel.coming.octets());
         }
         octets
@@ -47,7 +66,7 @@ impl<R: Role> Peer<R> {
     /// Whether so much waits for it that the other side is not read, which has the rest of a content that goes out.
     pub fn is_full<P: Role>(&self, from: &Peer<P>) -> bool {
         let octets = match self.link.source() {
-            Some(_) => self.link.end.ahead().len(),
+            Some(_) => self.link.end.ahead.left().len(),
             None => self.octets(from),
         };
         octets > FULL && !self.link.is_over()
@@ -91,17 +110,23 @@ impl<R: Role> Peer<R> {
     }
 
     /// What is said on a channel of the other side is passed on to this. One that opens there gets a partner here.
-    fn hear_of(&mut self, channels: &mut BTreeMap<u16, Channel>, heard: &Heard<'_>) -> Done {
+    fn hear_of(&mut self, channels: &mut Channels, heard: &Heard<'_>) -> Done {
         let number = heard.event.channel();
         let is_source = self.link.source() == Some(number);
-        if let Some(channel) = channels.get_mut(&number) {
+        if let Some(channel) = channels.get_mut(number) {
             self.pass(channel, is_source, heard)?;
         } else if let EventRef::Opened(_) = heard.event {
-            let partner = self.open(number)?;
-            drop(channels.insert(number, Channel::new(self.alloc, partner))?);
+            let partner = self.link.end.inner_mut().open_channel()?;
+            let own = Channel::new(self.alloc, number);
+            drop(self.channels.open.insert(partner, own)?);
+            drop(
+                channels
+                    .open
+                    .insert(number, Channel::new(self.alloc, partner))?,
+            );
         }
         if let EventRef::ChannelClosed(..) | EventRef::Discarded(_) = heard.event {
-            drop(channels.remove(&number));
+            drop(channels.open.remove(&number));
             if is_source {
                 self.close(reply::CONNECTION_FORCED, "CONNECTION_FORCED")?;
             }
@@ -112,7 +137,7 @@ impl<R: Role> Peer<R> {
     /// Asks what is said on a channel, or sends a part of the content that goes out from there.
     fn pass(&mut self, channel: &mut Channel, is_source: bool, heard: &Heard<'_>) -> Done {
         if is_source && let EventRef::Part(_, part, _) = heard.event {
-            self.link.end.pass(part)?;
+            self.link.end.ahead.pass(part)?;
         } else if let Some(partner) = channel.partner
             && let Some(ask) = asked_by(self.alloc, &mut channel.coming, partner, heard)?
         {
@@ -121,24 +146,16 @@ impl<R: Role> Peer<R> {
         Ok(())
     }
 
-    /// Opens a channel for one of this number at the other side.
-    fn open(&mut self, partner: u16) -> Result<u16> {
-        let number = self.link.end.inner.open_channel()?;
-        let own = Channel::new(self.alloc, partner);
-        drop(self.channels.insert(number, own)?);
-        Ok(number)
-    }
-
     /// Begins a content of the other side that isn't whole, where nothing is before it.
     pub fn begin<P: Role>(&mut self, from: &mut Peer<P>) -> Done {
         let mut next = 0;
-        for _ in 0..from.channels.len() {
-            let Some(number) = key_from(&from.channels, next) else {
+        for _ in 0..from.channels.open.len() {
+            let Some(number) = key_from(&from.channels.open, next) else {
                 break;
             };
-            if let Some(channel) = from.channels.get_mut(&number)
+            if let Some(channel) = from.channels.open.get_mut(&number)
                 && let Some(partner) = channel.partner
-                && let Some(own) = self.channels.get(&partner)
+                && let Some(own) = self.channels.open.get(&partner)
                 && own.waiting.is_empty()
             {
                 let (coming, end) = (&mut channel.coming, &mut self.link.end);
@@ -151,7 +168,7 @@ impl<R: Role> Peer<R> {
 
     /// Asks something on a channel, after what waits there. After a close nothing is.
     fn push(&mut self, number: u16, asking: Asking) -> Done {
-        match self.channels.get_mut(&number) {
+        match self.channels.get_mut(number) {
             Some(own) if own.partner.is_some() && !self.link.is_over() => Ok(own.push(asking)?),
             _ => Ok(drop(asking)),
         }
@@ -159,27 +176,22 @@ impl<R: Role> Peer<R> {
 
     /// Asks what waits on the channels, then what is for the connection: that at once, or once nothing else is left.
     pub fn advance(&mut self, at_once: bool, source: Option<u16>) -> Done {
-        let (mut next, mut is_left) = (1, source.is_some());
-        for _ in 0..self.channels.len() {
-            let Some(number) = key_from(&self.channels, next) else {
+        let end = self.link.end.inner_mut();
+        let (mut next, mut is_left) = (0, source.is_some());
+        for _ in 0..self.channels.open.len() {
+            let Some(number) = key_from(&self.channels.open, next) else {
                 break;
             };
-            is_left |= self.advance_on(number, source != Some(number))?;
+            if let Some(channel) = self.channels.open.get_mut(&number) {
+                channel.advance(end, source != Some(number))?;
+                is_left |= !channel.waiting.is_empty();
+            }
             next = number.saturating_add(1);
         }
         if at_once || !is_left {
-            self.advance_on(0, true)?;
+            self.channels.connection.advance(end, true)?;
         }
         Ok(())
-    }
-
-    /// Asks what waits on a channel, a close only if no content goes out from there. It answers whether any is left.
-    fn advance_on(&mut self, number: u16, closes: bool) -> Result<bool> {
-        let Some(channel) = self.channels.get_mut(&number) else {
-            return Ok(false);
-        };
-        channel.advance(&mut self.link.end.inner, closes)?;
-        Ok(!channel.waiting.is_empty())
     }
 
     pub fn close(&mut self, code: u16, text: &str) -> Done {
@@ -189,7 +201,7 @@ impl<R: Role> Peer<R> {
 
     /// Closes the connection, and forgets what else waits.
     pub fn fail(&mut self) {
-        self.channels.retain(|number, _| *number == 0);
+        self.channels.open.clear();
         drop(self.close(reply::INTERNAL_ERROR, "INTERNAL_ERROR"));
         drop(self.advance(true, None));
     }
@@ -197,11 +209,11 @@ impl<R: Role> Peer<R> {
     /// Answers a client that logs in. It is let in once the broker has let in the proxy, and refused where it won't.
     pub fn answer(&mut self, lets_in: bool) {
         if lets_in {
-            drop(let_in(&mut self.link.end.inner));
-        } else if let Some(all) = self.channels.get(&0)
-            && let Some(Asking::Plain(Ask::Close(code, text), _)) = all.waiting.front()
+            drop(let_in(self.link.end.inner_mut()));
+        } else if let Some(first) = self.channels.connection.waiting.front()
+            && let Asking::Plain(Ask::Close(code, text), _) = first
         {
-            drop(self.link.end.inner.refuse(*code, text));
+            drop(self.link.end.inner_mut().refuse(*code, text));
         }
     }
 }
