@@ -25,16 +25,8 @@ impl<E: Error + Drop> From<E> for Fault {
 /// As much of the text of a close as that takes: why, and of what name, if it is about one.
 pub fn close_text(alloc: Global, code: u16, why: &str, name: &[u8]) -> Result<ShortStr> {
     let kind = reply::reply_name(code).unwrap_or("refused");
-    let text = if name.is_empty() {
-        format!(in alloc; "{kind} - {why}")?
-    } else {
-        with_name(alloc, kind, why, name)?
-    };
-    let octets = text.as_bytes();
-    Ok(ShortStr::new(alloc, &octets[..octets.len().min(255)])?)
-}
-
-fn with_name(alloc: Global, kind: &str, why: &str, name: &[u8]) -> Result<String> {
-    let name = ShortStr::new(alloc, name)?;
-    Ok(format!(in alloc; "{kind} - {why} {name:?}")?)
+    let gap = if name.is_empty() { "" } else { " " };
+    let mut text = format!(in alloc; "{kind} - {why}{gap}")?.into_bytes();
+    text.extend_from_slice(name)?;
+    Ok(ShortStr::new(alloc, &text[..text.len().min(255)])?)
 }

@@ -22,7 +22,8 @@ const SPREAD: u64 = 16;
 #[derive(Drop)]
 pub struct Content {
     pub publish: Publish,
-    pub header: Header,
+    /// In a box, since it is large.
+    pub header: Box<Header>,
     pub body: Vec<u8>,
     share: Share,
 }
@@ -40,11 +41,12 @@ impl Content {
     ) -> Result<Content, OutOfMemory>
         ensures { IfOk result (λ content. content.body.items ≡ []) }
     {
+        let header = Box::new(alloc, Header::default())?;
         let publish = owned(alloc, publish)?;
         let share = Share::new(OVERHEAD, octets.clone()?);
         Ok(Content {
             publish,
-            header: Header::default(),
+            header,
             body: Vec::new(alloc),
             share,
         })
@@ -52,7 +54,7 @@ impl Content {
 
     /// Its header is there.
     pub fn head(&mut self, alloc: Global, header: HeaderRef<'_>) -> Result<(), OutOfMemory>
-        ensures { OnOk result (header_view self.new.header ≡ lent_header header.entry) }
+        ensures { OnOk result (header_view self.new.header.value ≡ lent_header header.entry) }
     {
         header.read_into(alloc, &mut self.header)?;
         let length = self.header.payload_length().saturating_mul(SPREAD);
