@@ -1,17 +1,29 @@
-"""Load for a broker over raw sockets: load.py PORT [PID]. With the broker's process it prints what memory that holds.
+"""Load for the example broker and for RabbitMQ beside it, over raw sockets: load.py PORT PID RABBITMQ_PORT.
 
-Each client sends octets that are made before, and drops what it reads, so that the broker is measured and not the client."""
+Each client sends octets that are made before, and drops what it reads, so that a broker is measured and not the client.
+It prints a line for each thing that was tried, and ends with status 1 where one did not go as it should."""
 
-import os
 import resource
 import socket
 import struct
 import sys
+import threading
 import time
 
-PORT = int(sys.argv[1])
-PID = int(sys.argv[2]) if len(sys.argv) > 2 else None
+PORT, PID, RABBITMQ_PORT = (int(word) for word in sys.argv[1:4])
+BROKERS = {"the example broker": PORT, "RabbitMQ": RABBITMQ_PORT}
 CONNECTIONS, CHANNELS = 1000, 10
+
+# the example broker may hold so much for a connection that is idle, and so much in all
+IDLE, MOST = 20_000, 400_000_000
+
+failed = False
+
+
+def says(what, well):
+    global failed
+    failed |= not well
+    print(f"{'ok' if well else 'FAILED'}: load: {what}", flush=True)
 
 
 def frame(kind, channel, payload):
@@ -37,8 +49,8 @@ def publish(queue, body):
 class Client:
     """A connection with a channel 1, and what was read and not looked at."""
 
-    def __init__(self, channels=1):
-        self.socket = socket.create_connection(("127.0.0.1", PORT), timeout=120)
+    def __init__(self, port, channels=1):
+        self.socket = socket.create_connection(("127.0.0.1", port), timeout=120)
         self.pending = b""
         response = b"\0guest\0guest"
         self.socket.sendall(b"AMQP\0\0\x09\x01")
@@ -99,15 +111,15 @@ class Client:
 
 
 def memory():
-    """What the broker holds in memory, in octets."""
-    with open(f"/proc/{PID}/statm", encoding="ascii") as it:
-        return int(it.read().split()[1]) * resource.getpagesize()
+    """What the example broker holds in memory, and what it held at most, in octets."""
+    with open(f"/proc/{PID}/status", encoding="ascii") as it:
+        sizes = dict(line.split(":", 1) for line in it)
+    return tuple(int(sizes[name].split()[0]) * 1024 for name in ("VmRSS", "VmHWM"))
 
 
-
-def throughput(size, count):
+def rates(port, size, count):
     """Messages published a second, to a queue, and consumed a second, without acks."""
-    client, body = Client(), b"x" * size
+    client, body = Client(port), b"x" * size
     client.declare(b"load")
     octets = publish(b"load", body) * count
     start = time.monotonic()
@@ -126,54 +138,101 @@ def throughput(size, count):
     client.skip(length * (count - 1))
     consumed = time.monotonic() - start
     client.delete(b"load")
-    rates = f"{count / published:,.0f} published and {count / consumed:,.0f} consumed a second"
-    print(f"{size} octets: {rates}", flush=True)
+    return count / published, count / consumed
 
 
-def crowd():
+def throughput(size, count):
+    """The example broker's rates beside RabbitMQ's, which it is to have half of at least."""
+    own, others = (rates(port, size, count) for port in BROKERS.values())
+    for what, rate, other in zip(("published", "consumed"), own, others):
+        ratio = f"{rate / other:.1f} times RabbitMQ's {other:,.0f}"
+        says(f"{size:,} octets: {rate:,.0f} {what} a second, {ratio}", rate > other / 2)
+
+
+def crowd(name, port):
     """Many connections with some channels each, which stay idle."""
-    before = memory() if PID else 0
-    clients = [Client(CHANNELS) for _ in range(CONNECTIONS)]
-    told = f", {(memory() - before) // CONNECTIONS:,} octets each" if PID else ""
-    print(f"{len(clients)} connections with {CHANNELS} channels{told}", flush=True)
+    before, _ = memory()
+    clients = [Client(port, CHANNELS) for _ in range(CONNECTIONS)]
+    what = f"{name}: {len(clients):,} connections with {CHANNELS} channels each"
+    if port != PORT:
+        says(what, True)
+        return
+    each = (memory()[0] - before) // CONNECTIONS
+    says(f"{what}, {each:,} octets a connection", each < IDLE)
 
 
-def never_reads():
-    """A consumer that never reads, while 200 MB are published and another consumer takes its half."""
-    feeder, stuck, quick = Client(), Client(), Client()
+def killed(name, port):
+    """Clients that go away in the middle of a content: the broker serves on."""
+    for cut in range(1, 400, 7):
+        client = Client(port)
+        client.socket.sendall(publish(b"nowhere", b"x" * 1000)[:cut])
+        client.socket.close()
+    served = Client(port).declare(b"after") == 0
+    says(f"{name}: others are served after clients went away in the middle of a content", served)
+
+
+def take_all(client):
+    """Reads until nothing comes for five seconds, and answers how many octets of contents came."""
+    seen = 0
+    client.socket.settimeout(5)
+    try:
+        while True:
+            kind, payload = client.frame()
+            seen += len(payload) if kind == 3 else 0
+    except TimeoutError:
+        return seen
+
+
+def never_reads(name, port):
+    """A consumer that never reads, while 200 MB are published and another consumer takes at least its half."""
+    feeder, stuck, quick = Client(port), Client(port), Client(port)
     feeder.declare(b"both")
     stuck.consume(b"both")
     quick.consume(b"both")
     count, body = 2000, b"x" * 100_000
-    seen = 0
     for _ in range(count):
         feeder.socket.sendall(publish(b"both", body))
-    quick.socket.settimeout(5)
-    try:
-        while True:
-            kind, payload = quick.frame()
-            seen += len(payload) if kind == 3 else 0
-    except TimeoutError:
-        pass
-    print(f"beside a consumer that never reads another took {seen:,} of {count * len(body):,} octets", flush=True)
-    if PID:
-        print(f"the broker then holds {memory():,} octets in all", flush=True)
+    seen, octets = take_all(quick), count * len(body)
+    what = f"beside a consumer that never reads another took {seen:,} of {octets:,} octets"
+    says(f"{name}: {what}", seen >= octets // 2)
+    feeder.delete(b"both")
 
 
-def killed():
-    """Clients that go away in the middle of a content: the broker serves on."""
-    for cut in range(1, 400, 7):
-        client = Client()
-        client.socket.sendall(publish(b"nowhere", b"x" * 1000)[:cut])
-        client.socket.close()
-    Client().declare(b"after")
-    print("clients that went away in the middle of a content: others are served", flush=True)
+def reads_slowly(client, is_over, taken):
+    """Reads about 5 MB a second."""
+    room = bytearray(100_000)
+    while not is_over.is_set():
+        taken.append(client.socket.recv_into(room))
+        time.sleep(0.02)
+
+
+def slow_beside_fast(name, port):
+    """A consumer that reads 5 MB a second, while 100 MB are published and another consumer takes at least its half."""
+    feeder, slow, quick = Client(port), Client(port), Client(port)
+    feeder.declare(b"two")
+    slow.consume(b"two")
+    quick.consume(b"two")
+    is_over, taken = threading.Event(), []
+    reader = threading.Thread(target=reads_slowly, args=(slow, is_over, taken), daemon=True)
+    reader.start()
+    count, body = 1000, b"x" * 100_000
+    for _ in range(count):
+        feeder.socket.sendall(publish(b"two", body))
+    seen, octets = take_all(quick), count * len(body)
+    is_over.set()
+    both = f"beside a slow consumer, which read {sum(taken):,} octets, another took {seen:,} of {octets:,}"
+    says(f"{name}: {both}", sum(taken) > 0 and seen >= octets // 2)
 
 
 soft, hard = resource.getrlimit(resource.RLIMIT_NOFILE)
 resource.setrlimit(resource.RLIMIT_NOFILE, (min(hard, 4096), hard))
-crowd()
+for broker, at in BROKERS.items():
+    crowd(broker, at)
 throughput(100, 50_000)
 throughput(10_000, 10_000)
-killed()
-never_reads()
+for run in (killed, never_reads, slow_beside_fast):
+    for broker, at in BROKERS.items():
+        run(broker, at)
+held, most = memory()
+says(f"the example broker: it held {most:,} octets at most, and {held:,} after all this", most < MOST)
+sys.exit(failed)
