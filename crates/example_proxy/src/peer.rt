@@ -119,11 +119,8 @@ impl<R: Role> Peer<R> {
             let partner = self.link.end.inner_mut().open_channel()?;
             let own = Channel::new(self.alloc, number);
             drop(self.channels.open.insert(partner, own)?);
-            drop(
-                channels
-                    .open
-                    .insert(number, Channel::new(self.alloc, partner))?,
-            );
+            let opened = Channel::new(self.alloc, partner);
+            drop(channels.open.insert(number, opened)?);
         }
         if let EventRef::ChannelClosed(..) | EventRef::Discarded(_) = heard.event {
             drop(channels.open.remove(&number));
