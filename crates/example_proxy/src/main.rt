@@ -55,8 +55,8 @@ impl Relay {
         self.client.link.has_work() || self.broker.link.has_work()
     }
 
-    /// Does what there is to do, and answers whether nothing is left. What can't be passed on ends both sides, and a side
-    /// is held while too much waits at the other.
+    /// Does what there is to do, and answers whether nothing is left. What can't be passed on ends both sides, and a
+    /// side is held while too much waits at the other.
     fn turn(&mut self, rt: &impl Print, ticks: bool, room: &mut [u8]) -> bool {
         if ticks || self.has_work() {
             let (client, broker) = (&mut self.client, &mut self.broker);
