@@ -9,11 +9,20 @@ use amqp_core::{Ask, AskFault, Role, StreamEnd};
 use amqp_method::Kind;
 
 /// An ask that waits until an end can take it.
-#[derive(Drop)]
 pub enum Asking {
     /// Of a close: with the kind of the method that it is about, if it names one.
     Plain(Ask, Option<Kind>),
     Content(u16, Content),
+}
+
+/// Written out, so that it is proved once.
+impl Drop for Asking {
+    fn drop(self) {
+        match self {
+            Asking::Plain(ask, _) => drop(ask),
+            Asking::Content(_, content) => drop(content),
+        }
+    }
 }
 
 impl Asking {

@@ -43,7 +43,6 @@ pub trait Outlet {
     fn give_up(&mut self, connection: usize);
 }
 
-#[derive(Drop)]
 pub struct Store {
     pub(crate) alloc: Global,
     /// How many octets all messages hold.
@@ -55,6 +54,22 @@ pub struct Store {
     last_id: u64,
     /// The number from which queues are asked first for what they send.
     first: QueueId,
+}
+
+/// Written out, so that it is proved once.
+impl Drop for Store {
+    fn drop(self) {
+        let Store {
+            alloc: _,
+            held: _,
+            channels: _,
+            exchanges: _,
+            queues: _,
+            names: _,
+            last_id: _,
+            first: _,
+        } = self;
+    }
 }
 
 impl Store {
