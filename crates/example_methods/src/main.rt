@@ -20,14 +20,14 @@ const DELIVER: &[u8] = b"\x00\x3c\x00\x3c\x02c1\x00\x00\x00\x00\x00\x00\x00\x03\
 
 fn main(rt: HostRuntime) -> Result<()> {
     let alloc = rt.alloc();
-    show(&rt, alloc, &declare(alloc)?)?;
+    show(&rt, alloc, declare(alloc)?)?;
     show_message(&rt, alloc, publish(alloc)?)?;
-    show(&rt, alloc, &consume(alloc)?)?;
-    show(&rt, alloc, &basic::Qos::new(100).into_method(alloc)?)?;
-    show(&rt, alloc, &basic::Ack::new(3).into_method(alloc)?)?;
-    show(&rt, alloc, &nack(alloc)?)?;
-    show(&rt, alloc, &confirm::Select::new().into_method(alloc)?)?;
-    show(&rt, alloc, &close(alloc)?)?;
+    show(&rt, alloc, consume(alloc)?)?;
+    show(&rt, alloc, basic::Qos::new(100).into_method(alloc)?)?;
+    show(&rt, alloc, basic::Ack::new(3).into_method(alloc)?)?;
+    show(&rt, alloc, nack(alloc)?)?;
+    show(&rt, alloc, confirm::Select::new().into_method(alloc)?)?;
+    show(&rt, alloc, close(alloc)?)?;
     show_message(&rt, alloc, forward(alloc, read_method(alloc, DELIVER)?)?)?;
     tell_return(&rt, &read_method(alloc, RETURN)?)?;
     tell_confirm(&rt, &read_method(alloc, CONFIRM)?)
@@ -43,10 +43,11 @@ fn declare(alloc: Global) -> Result<Method> {
 
 /// A message that outlives a restart of the server.
 fn publish(alloc: Global) -> Result<Message> {
+    let publish = basic::Publish::new(text(alloc, b"")?, text(alloc, b"orders")?);
+    let body = Vec::from_slice(alloc, b"hello")?;
     let mut properties = Properties::default();
     properties.delivery_mode = Some(delivery_mode::PERSISTENT);
-    let publish = basic::Publish::new(text(alloc, b"")?, text(alloc, b"orders")?);
-    Ok(publish.message(alloc, properties, Vec::from_slice(alloc, b"hello")?)?)
+    Ok(publish.message(alloc, properties, body)?)
 }
 
 fn consume(alloc: Global) -> Result<Method> {
@@ -71,15 +72,12 @@ fn close(alloc: Global) -> Result<Method> {
 
 /// What was delivered is published again, to the exchange `copies` under the same key.
 fn forward(alloc: Global, deliver: Method) -> Result<Message> {
+    let (exchange, body) = (text(alloc, b"copies")?, Vec::from_slice(alloc, b"hello")?);
     let Ok(deliver) = basic::Deliver::from_method(deliver) else {
         bail!("no delivery");
     };
-    let publish = basic::Publish::new(text(alloc, b"copies")?, deliver.routing_key);
-    Ok(publish.message(
-        alloc,
-        Properties::default(),
-        Vec::from_slice(alloc, b"hello")?,
-    )?)
+    let publish = basic::Publish::new(exchange, deliver.routing_key);
+    Ok(publish.message(alloc, Properties::default(), body)?)
 }
 
 /// Why a message came back. What the method holds is only lent.
@@ -118,7 +116,13 @@ fn text(alloc: Global, octets: &[u8]) -> Result<ShortStr, ValueFault> {
 }
 
 /// Prints a method, and the octets of its payload.
-fn show(rt: &impl Print, alloc: Global, method: &Method) -> Result<()> {
+fn show(rt: &impl Print, alloc: Global, method: Method) -> Result<()> {
+    let shown = show_method(rt, alloc, &method);
+    drop(method);
+    shown
+}
+
+fn show_method(rt: &impl Print, alloc: Global, method: &Method) -> Result<()> {
     let mut octets = Vec::new(alloc);
     write_method(method, &mut octets)?;
     println!(rt; "{method}")?;
@@ -128,16 +132,28 @@ fn show(rt: &impl Print, alloc: Global, method: &Method) -> Result<()> {
 
 /// The same of a message: its method, and the header of its content.
 fn show_message(rt: &impl Print, alloc: Global, message: Message) -> Result<()> {
-    let (method, Some((properties, body))) = message.into_parts() else {
+    let shown = show_parts(rt, alloc, &message);
+    drop(message);
+    shown
+}
+
+fn show_parts(rt: &impl Print, alloc: Global, message: &Message) -> Result<()> {
+    show_method(rt, alloc, message.method())?;
+    let Some((properties, body)) = message.content_parts() else {
         bail!("no content");
     };
-    show(rt, alloc, &method)?;
     let header = Header {
         body_size: body.len() as u64,
-        properties,
+        properties: properties.copy()?,
     };
+    let shown = show_header(rt, alloc, &header);
+    drop(header);
+    shown
+}
+
+fn show_header(rt: &impl Print, alloc: Global, header: &Header) -> Result<()> {
     let mut octets = Vec::new(alloc);
-    write_header(&header, &mut octets)?;
+    write_header(header, &mut octets)?;
     println!(rt; "{header}")?;
     println!(rt; "{}", hex::encode(alloc, &octets)?)?;
     Ok(())
