@@ -9,7 +9,7 @@ use amqp_core::{
     ChannelState, Client, ClientHello, Config, End, EventRef, HandOverFault, Phase, Pieces, Role,
     SendQueue, Server, ServerHello, StreamEnd,
 };
-use amqp_method::Properties;
+use amqp_method::{Method, Properties};
 use amqp_typed::Typed;
 use amqp_typed::basic::Publish;
 use amqp_value::{ShortStr, Table};
@@ -27,18 +27,29 @@ const LENGTHS: [usize; 5] = [0, 1, 131_064, 1_000_000, 3_000_000];
 fn main(rt: HostRuntime) -> Result<()> {
     let alloc = rt.alloc();
     let mut poll = Poll::new(&rt)?;
-    let mut events = Events::with_capacity(alloc, 8)?;
-    let mut room = vec![in alloc; 0; 65_536]?;
     let listener = TcpListener::bind(&rt, "127.0.0.1:0")?;
     let near = TcpStream::connect(&rt, listener.local_addr()?)?;
     let (far, _) = listener.accept()?;
     let mut client: Side<Client> = Side::new(alloc, &poll, near, client_hello(alloc)?)?;
     let mut server: Side<Server> = Side::new(alloc, &poll, far, server_hello(alloc)?)?;
+    serve(&rt, alloc, &mut poll, &mut client, &mut server)
+}
+
+/// Gives both sides their turns until the client's connection is closed.
+fn serve(
+    rt: &impl Print,
+    alloc: Global,
+    poll: &mut Poll,
+    client: &mut Side<Client>,
+    server: &mut Side<Server>,
+) -> Result<()> {
+    let mut events = Events::with_capacity(alloc, 8)?;
+    let mut room = vec![in alloc; 0; 65_536]?;
     for _ in 0..u64::MAX {
         if client.end.phase() == Phase::Closed {
             break;
         }
-        publish(alloc, &mut client)?;
+        publish(alloc, client)?;
         if !(client.turn(&mut room)? | server.turn(&mut room)?) {
             poll.poll(&mut events, None)?;
         }
@@ -68,11 +79,20 @@ fn publish(alloc: Global, client: &mut Side<Client>) -> Result<()> {
 fn send(alloc: Global, client: &mut Side<Client>, length: usize) -> Result<()> {
     let (exchange, key) = (ShortStr::text(alloc, "")?, ShortStr::text(alloc, "sums")?);
     let method = Publish::new(exchange, key).into_method(alloc)?;
-    let head = Properties::default();
+    let sent = send_on_each(alloc, client, length, &method);
+    drop(method);
+    sent
+}
+
+fn send_on_each(
+    alloc: Global,
+    client: &mut Side<Client>,
+    length: usize,
+    method: &Method,
+) -> Result<()> {
     for channel in 1..=CHANNELS {
         let body = vec![in alloc; u8::try_from(channel)?; length]?;
-        client.end.send_content(channel, &method, &head, &body)?;
-        client.write()?;
+        client.send(channel, method, &body)?;
     }
     Ok(())
 }
@@ -120,6 +140,16 @@ impl<R: Role> Side<R> {
             contents: 0,
             sum: 0,
         })
+    }
+
+    /// Sends a content without properties, and writes once.
+    fn send(&mut self, channel: u16, method: &Method, body: &[u8]) -> Result<()> {
+        let properties = Properties::default();
+        let sent = self.end.send_content(channel, method, &properties, body);
+        drop(properties);
+        sent?;
+        self.write()?;
+        Ok(())
     }
 
     /// Reads once, takes what came, and writes once. It answers whether an octet was moved.
