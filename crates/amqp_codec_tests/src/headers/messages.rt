@@ -35,10 +35,17 @@ fn assert_plain(
     assert_method(rt, alloc, message.method(), octets)
 }
 
+/// A copy of a message, which is let go.
+fn copied(message: Message) -> Result<Message, Fail> {
+    let copy = message.copy();
+    drop(message);
+    Ok(copy?)
+}
+
 #[test]
 fn a_message_is_copied(rt: HostRuntime) -> Result<(), Fail> {
     let octets = [0x00, 0x5a, 0x00, 0x0a];
-    let copy = plain(&rt, rt.alloc(), &octets)?.copy()?;
+    let copy = copied(plain(&rt, rt.alloc(), &octets)?)?;
     assert_plain(&rt, rt.alloc(), &copy, &octets)
 }
 
@@ -79,7 +86,8 @@ fn assert_whole(
 fn a_message_with_a_long_body(rt: HostRuntime) -> Result<(), Fail> {
     let whole = long_publish(rt.alloc())?;
     let body = octets(rt.alloc(), 1_000_000)?;
-    let copy = with_body(&rt, rt.alloc(), &whole, octets(rt.alloc(), 1_000_000)?)?.copy()?;
+    let message = with_body(&rt, rt.alloc(), &whole, octets(rt.alloc(), 1_000_000)?)?;
+    let copy = copied(message)?;
     assert_whole(&rt, rt.alloc(), &copy, &whole, &body)
 }
 

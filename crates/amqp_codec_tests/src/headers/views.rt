@@ -1,7 +1,7 @@
 //! Content headers as they lie in their octets: each property alone, and all.
 use crate::headers::properties::{ALONE, text_of};
 use crate::showing::{assert_for, assert_printed, assert_same, assert_same_for};
-use amqp_method::{HeaderRef, check_header, read_header, read_headers};
+use amqp_method::{Header, HeaderRef, check_header, read_header, read_headers};
 use std::alloc::Global;
 use std::process::Abort;
 use std::test::Fail;
@@ -67,12 +67,21 @@ fn assert_one_walk(rt: &impl Abort, alloc: Global, header: HeaderRef) -> Result<
     Ok(())
 }
 
+/// Whether it is this header once it is owned.
+fn is_owned_as(alloc: Global, header: HeaderRef, wanted: &Header) -> Result<bool, Fail> {
+    let owned = header.to_owned(alloc)?;
+    Ok(owned == *wanted)
+}
+
 /// The octets are a header's, and owned it is the one that they are read as.
 fn assert_owned(rt: &impl Abort, alloc: Global, header: HeaderRef) -> Result<(), Fail> {
     assert_one_walk(rt, alloc, header)?;
     assert_same(rt, check_header(header.payload()), Ok(SIZE));
     assert_same(rt, header.body_size(), SIZE);
-    assert!(rt; header.to_owned(alloc)? == read_header(alloc, header.payload())?);
+    let read = read_header(alloc, header.payload())?;
+    let is_same = is_owned_as(alloc, header, &read);
+    drop(read);
+    assert!(rt; is_same?);
     Ok(())
 }
 
