@@ -169,22 +169,33 @@ fn assert_refused(
     Ok(())
 }
 
-#[test]
-fn what_is_refused_is_not_begun(rt: HostRuntime) -> Result<(), Fail> {
-    let alloc = rt.alloc();
-    let publish = message(alloc, &octets_of(alloc, &["basic.publish"])?, b"", 0)?;
-    let select = message(alloc, &octets_of(alloc, &["tx.select"])?, b"", 0)?;
+/// A client with two open channels refuses them.
+fn assert_client_refuses(
+    rt: &impl Abort,
+    alloc: Global,
+    publish: &Method,
+    select: &Method,
+) -> Result<(), Fail> {
     let mut octets = Vec::from_slice(alloc, b"abc")?;
     let mut client = client_after(alloc, "both open 2")?;
-    let assertion = assert_refused(
-        &rt,
-        &mut client,
-        publish.method(),
-        select.method(),
-        &mut octets,
-    );
+    let assertion = assert_refused(rt, &mut client, publish, select, &mut octets);
     drop(client);
-    drop(publish);
+    assertion
+}
+
+fn assert_select_refused(rt: &impl Abort, alloc: Global, publish: &Method) -> Result<(), Fail> {
+    let octets = octets_of(alloc, &["tx.select"])?;
+    let select = message(alloc, &octets, b"", 0)?;
+    let assertion = assert_client_refuses(rt, alloc, publish, select.method());
     drop(select);
+    assertion
+}
+
+#[test]
+fn what_is_refused_is_not_begun(rt: HostRuntime) -> Result<(), Fail> {
+    let octets = octets_of(rt.alloc(), &["basic.publish"])?;
+    let publish = message(rt.alloc(), &octets, b"", 0)?;
+    let assertion = assert_select_refused(&rt, rt.alloc(), publish.method());
+    drop(publish);
     assertion
 }

@@ -16,11 +16,12 @@ pub(crate) fn declare(alloc: Global) -> Result<Method, Fail> {
 }
 
 pub(crate) fn publish(alloc: Global) -> Result<Message, Fail> {
-    let mut properties = Properties::default();
-    properties.delivery_mode = Some(delivery_mode::PERSISTENT);
     let mut publish = basic::Publish::new(text(alloc, "")?, text(alloc, "orders")?);
     publish.mandatory = true;
-    Ok(publish.message(alloc, properties, Vec::from_slice(alloc, b"hello")?)?)
+    let body = Vec::from_slice(alloc, b"hello")?;
+    let mut properties = Properties::default();
+    properties.delivery_mode = Some(delivery_mode::PERSISTENT);
+    Ok(publish.message(alloc, properties, body)?)
 }
 
 pub(crate) fn consume(alloc: Global) -> Result<Method, Fail> {

@@ -24,8 +24,7 @@ pub(crate) fn declare(alloc: Global) -> Result<Method, Fail> {
 }
 
 pub(crate) fn publish(alloc: Global) -> Result<Message, Fail> {
-    let mut properties = Properties::default();
-    properties.delivery_mode = Some(delivery_mode::PERSISTENT);
+    let body = Vec::from_slice(alloc, b"hello")?;
     let args = [
         Arg::ShortStr(text(alloc, "")?),
         Arg::ShortStr(text(alloc, "orders")?),
@@ -33,7 +32,8 @@ pub(crate) fn publish(alloc: Global) -> Result<Message, Fail> {
         Arg::Bit(false),
     ];
     let method = Method::new(Kind::BasicPublish, Vec::from_array(alloc, args)?);
-    let body = Vec::from_slice(alloc, b"hello")?;
+    let mut properties = Properties::default();
+    properties.delivery_mode = Some(delivery_mode::PERSISTENT);
     Ok(Message::content(method, properties, body))
 }
 
