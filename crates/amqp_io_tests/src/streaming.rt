@@ -185,25 +185,47 @@ fn open_first(alloc: Global, session: &mut StreamSession<Server, Script>) -> Res
     hear(&mut session.end, piece, &mut heard)
 }
 
-fn assert_lent(
+/// A content isn't lent while replies wait, with a method that begins none, or on a channel that isn't open.
+fn assert_not_lent(
+    rt: &impl Abort,
+    session: &mut StreamSession<Server, Script>,
+    deliver: &Method,
+    flow: &Method,
+    octets: &mut Vec<u8>,
+) -> Result<(), Fail> {
+    assert!(rt; fault(session, 1, deliver, octets) == Some(LendFault::Waits));
+    session.push(usize::MAX)?;
+    let refused = Some(LendFault::Refused(AskFault::NotSendable));
+    assert!(rt; fault(session, 1, flow, octets) == refused);
+    let refused = Some(LendFault::Refused(AskFault::NotOpen));
+    assert!(rt; fault(session, 2, deliver, octets) == refused);
+    Ok(())
+}
+
+fn assert_flow_not_lent(
     rt: &impl Abort,
     alloc: Global,
     session: &mut StreamSession<Server, Script>,
+    deliver: &Method,
+    octets: &mut Vec<u8>,
 ) -> Result<(), Fail> {
-    let deliver = read_method(alloc, &DELIVER)?;
     let flow = read_method(alloc, b"\x00\x14\x00\x14\x01")?;
-    let properties = Properties::default();
-    let mut octets = Vec::new(alloc);
-    open_first(alloc, session)?;
-    assert!(rt; fault(session, 1, &deliver, &mut octets) == Some(LendFault::Waits));
-    session.push(usize::MAX)?;
-    let refused = Some(LendFault::Refused(AskFault::NotSendable));
-    assert!(rt; fault(session, 1, &flow, &mut octets) == refused);
-    let refused = Some(LendFault::Refused(AskFault::NotOpen));
-    assert!(rt; fault(session, 2, &deliver, &mut octets) == refused);
+    let assertion = assert_not_lent(rt, session, deliver, &flow, octets);
+    drop(flow);
+    assertion
+}
+
+fn assert_frames(
+    rt: &impl Abort,
+    alloc: Global,
+    session: &mut StreamSession<Server, Script>,
+    deliver: &Method,
+    properties: &Properties,
+    octets: &mut Vec<u8>,
+) -> Result<(), Fail> {
     let mut frames = session
         .end
-        .lend_content(1, &deliver, &properties, b"abcdefghij", &mut octets)?;
+        .lend_content(1, deliver, properties, b"abcdefghij", octets)?;
     assert!(rt; session.end.output().is_empty());
     assert!(rt; session.push_frames(&mut frames) == Err(IoFault::Write));
     assert!(rt; session.push_frames(&mut frames) == Err(IoFault::Write));
@@ -213,6 +235,32 @@ fn assert_lent(
     let lent = octets_of(alloc, LENT)?;
     assert!(rt; session.stream.written() == lent.as_slice());
     Ok(())
+}
+
+fn assert_deliver(
+    rt: &impl Abort,
+    alloc: Global,
+    session: &mut StreamSession<Server, Script>,
+    deliver: &Method,
+) -> Result<(), Fail> {
+    let mut octets = Vec::new(alloc);
+    open_first(alloc, session)?;
+    assert_flow_not_lent(rt, alloc, session, deliver, &mut octets)?;
+    let properties = Properties::default();
+    let assertion = assert_frames(rt, alloc, session, deliver, &properties, &mut octets);
+    drop(properties);
+    assertion
+}
+
+fn assert_lent(
+    rt: &impl Abort,
+    alloc: Global,
+    session: &mut StreamSession<Server, Script>,
+) -> Result<(), Fail> {
+    let deliver = read_method(alloc, &DELIVER)?;
+    let assertion = assert_deliver(rt, alloc, session, &deliver);
+    drop(deliver);
+    assertion
 }
 
 /// Why no content with this method is lent.
@@ -245,7 +293,53 @@ fn lent_contents_are_written_in_parts(rt: HostRuntime) -> Result<(), Fail> {
     assertion
 }
 
+fn write_lent(
+    alloc: Global,
+    body: &[u8],
+    session: &mut StreamSession<Server, Script>,
+    deliver: &Method,
+    properties: &Properties,
+) -> Result<(), Fail> {
+    let mut octets = Vec::new(alloc);
+    open_first(alloc, session)?;
+    session.push(usize::MAX)?;
+    let mut frames = session
+        .end
+        .lend_content(1, deliver, properties, body, &mut octets)?;
+    session.push_frames(&mut frames)?;
+    Ok(())
+}
+
+fn write_sent(
+    alloc: Global,
+    body: &[u8],
+    session: &mut StreamSession<Server, Script>,
+    deliver: &Method,
+    properties: &Properties,
+) -> Result<(), Fail> {
+    open_first(alloc, session)?;
+    session.end.send_content(1, deliver, properties, body)?;
+    session.push(usize::MAX)?;
+    Ok(())
+}
+
 /// Writes a content that is lent, and the same content that is sent.
+fn write_both(
+    alloc: Global,
+    body: &[u8],
+    lending: &mut StreamSession<Server, Script>,
+    sending: &mut StreamSession<Server, Script>,
+    deliver: &Method,
+) -> Result<(), Fail> {
+    let properties = Properties::default();
+    let written = match write_lent(alloc, body, lending, deliver, &properties) {
+        Ok(()) => write_sent(alloc, body, sending, deliver, &properties),
+        failed => failed,
+    };
+    drop(properties);
+    written
+}
+
 fn assert_alike(
     rt: &impl Abort,
     alloc: Global,
@@ -254,17 +348,9 @@ fn assert_alike(
     sending: &mut StreamSession<Server, Script>,
 ) -> Result<(), Fail> {
     let deliver = read_method(alloc, &DELIVER)?;
-    let properties = Properties::default();
-    let mut octets = Vec::new(alloc);
-    open_first(alloc, lending)?;
-    lending.push(usize::MAX)?;
-    let mut frames = lending
-        .end
-        .lend_content(1, &deliver, &properties, body, &mut octets)?;
-    lending.push_frames(&mut frames)?;
-    open_first(alloc, sending)?;
-    sending.end.send_content(1, &deliver, &properties, body)?;
-    sending.push(usize::MAX)?;
+    let written = write_both(alloc, body, lending, sending, &deliver);
+    drop(deliver);
+    written?;
     assert!(rt; lending.stream.written() == sending.stream.written());
     assert!(rt; lending.stream.written().len() > body.len());
     Ok(())
