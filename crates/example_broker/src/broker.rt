@@ -3,9 +3,8 @@ use crate::connection::{Asked, Connection};
 use crate::connections::Connections;
 use amqp_method::{Kind, MethodRef, reply};
 use amqp_value::ShortStr;
-use example_loop::{Connect, Program, key_from, send_plain};
+use example_loop::{Connect, Program, send_plain};
 use example_store::{Answer, BOUND, Done, Fault, Place, Result, Store, Users};
-use mio::event::Event;
 use mio::net::TcpStream;
 use std::alloc::Global;
 use std::collections::BTreeMap;
@@ -91,54 +90,43 @@ impl Broker {
         Ok(end.close_channel_for(at.1, code, text, kind)?)
     }
 
-    /// A connection has its turn.
-    fn serve(&mut self, id: usize, ticks: bool, room: &mut [u8]) -> Done {
+    /// A connection has its turn. The answer is whether nothing is left to do there.
+    fn serve(&mut self, id: usize, ticks: bool, room: &mut [u8]) -> Result<bool> {
         let is_short = self.is_short;
         let count = self.connections.get(id)?.turn(is_short, ticks, room);
         self.hear(id, &room[..count])?;
-        if self.connections.get(id)?.link.is_done() {
+        let is_done = self.connections.get(id)?.link.is_done();
+        if is_done {
             self.store.close_connection(id)?;
-            drop(self.connections.0.remove(&id));
         }
-        Ok(())
+        Ok(is_done)
     }
 }
 
 impl Program for Broker {
-    fn has_work(&self) -> bool {
-        for connection in self.connections.0.values() {
-            if connection.link.has_work() || connection.link.is_done() {
-                return true;
-            }
-        }
-        false
+    type Connection = Connection;
+
+    fn connections(&mut self) -> &mut BTreeMap<usize, Connection> {
+        &mut self.connections.0
     }
 
-    fn add(&mut self, _: &impl Connect, number: usize, stream: TcpStream) -> anyhow::Result<()> {
-        let connection = Connection::new(self.alloc, self.users.clone()?, number, stream)?;
-        drop(self.connections.0.insert(number, connection)?);
-        Ok(())
-    }
-
-    fn note(&mut self, number: usize, event: &Event) {
-        if let Ok(connection) = self.connections.get(number) {
-            connection.link.note(event);
-        }
+    fn accept(
+        &mut self,
+        _: &impl Connect,
+        number: usize,
+        stream: TcpStream,
+    ) -> anyhow::Result<Connection> {
+        Connection::new(self.alloc, self.users.clone()?, number, stream)
     }
 
     /// What fails in it, since memory was refused, is tried again in the next.
-    fn turn(&mut self, _: &impl Print, ticks: bool, room: &mut [u8]) -> anyhow::Result<()> {
+    fn turn(&mut self, _: &impl Print, id: usize, ticks: bool, room: &mut [u8]) -> bool {
+        self.serve(id, ticks, room).unwrap_or(false)
+    }
+
+    fn finish(&mut self) {
         let bound = if self.is_short { BOUND / 4 * 3 } else { BOUND };
         self.is_short = self.store.held() > bound;
-        let mut next = 0;
-        for _ in 0..self.connections.0.len() {
-            let Some(id) = key_from(&self.connections.0, next) else {
-                break;
-            };
-            drop(self.serve(id, ticks, room));
-            next = id.saturating_add(1);
-        }
         self.store.deliver(&mut self.connections);
-        Ok(())
     }
 }

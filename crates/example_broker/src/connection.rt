@@ -6,8 +6,9 @@ use amqp_method::{Kind, MethodRef, OutOfMemory, reply};
 use amqp_typed::TypedRef;
 use amqp_typed::connection::{OpenRef, StartOkRef};
 use amqp_value::ShortStr;
-use example_loop::{BROKER_ABILITIES, FULL, Link, let_in, server_end};
+use example_loop::{BROKER_ABILITIES, FULL, Link, Served, let_in, server_end};
 use example_store::{BOUND, Channel, Done, Store, Users};
+use mio::event::Event;
 use mio::net::TcpStream;
 use std::alloc::Global;
 use std::cell::Cell;
@@ -48,6 +49,16 @@ pub struct Connection {
     is_blocked: bool,
 }
 
+impl Served for Connection {
+    fn has_work(&self) -> bool {
+        self.link.has_work() || self.link.is_done()
+    }
+
+    fn note(&mut self, event: &Event) {
+        self.link.note(event);
+    }
+}
+
 impl Connection {
     pub fn new(
         alloc: Global,
@@ -70,7 +81,7 @@ impl Connection {
     }
 
     pub fn end(&mut self) -> &mut StreamEnd<Server> {
-        self.link.end.inner_mut()
+        &mut self.link.end
     }
 
     /// Takes octets up to the end of a frame, and answers how many, and what the frame asks on which channel. The payload
@@ -99,7 +110,7 @@ impl Connection {
 
     pub fn login(&mut self) -> Done {
         let mut is_user = None;
-        if let Some(start) = self.link.end.inner().heard(Kind::ConnectionStartOk)
+        if let Some(start) = self.link.end.heard(Kind::ConnectionStartOk)
             && let Some(start) = StartOkRef::from_ref(start)
         {
             is_user = self.users.allow(self.alloc, &start);
@@ -111,7 +122,7 @@ impl Connection {
     /// Lets a client into the virtual host.
     pub fn enter(&mut self) -> Done {
         let mut is_host = None;
-        if let Some(open) = self.link.end.inner().heard(Kind::ConnectionOpen)
+        if let Some(open) = self.link.end.heard(Kind::ConnectionOpen)
             && let Some(open) = OpenRef::from_ref(open)
         {
             is_host = Some(open.virtual_host.as_bytes() == b"/".as_slice());
@@ -132,7 +143,7 @@ impl Connection {
         if self.link.is_over() {
             return usize::MAX;
         }
-        self.link.end.waiting()
+        self.link.waiting()
     }
 
     /// Writes what waits, and reads once. It answers how many octets came.

@@ -6,9 +6,9 @@ mod connection;
 mod connections;
 
 use crate::broker::Broker;
+use anyhow::Result;
 use example_loop::{has_word, serve};
 use example_store::Users;
-use std::alloc::Global;
 use std::process::ExitCode;
 use std::{env, fs};
 
@@ -19,10 +19,13 @@ Serves AMQP 0-9-1 at ADDRESS, as 127.0.0.1:5672, to any number of clients. FILE 
 for each user; without it the only user is guest, with the password guest. The virtual host is /.
 Exchanges, queues and messages are kept in memory, and are gone when the program ends.";
 
-fn main(rt: HostRuntime) -> anyhow::Result<ExitCode> {
-    let alloc = rt.alloc();
-    let words: Vec<String> = env::args(&rt)?.collect(alloc)?;
-    if has_word(&words, "--help") {
+fn main(rt: HostRuntime) -> Result<ExitCode> {
+    let words: Vec<String> = env::args(&rt)?.collect(rt.alloc())?;
+    run(&rt, &words)
+}
+
+fn run(rt: &HostRuntime, words: &[String]) -> Result<ExitCode> {
+    if has_word(words, "--help") {
         println!(rt; "{HELP}")?;
         return Ok(ExitCode::SUCCESS);
     }
@@ -32,21 +35,26 @@ fn main(rt: HostRuntime) -> anyhow::Result<ExitCode> {
         eprintln!(rt; "{HELP}")?;
         return Ok(ExitCode::from(2));
     }
-    let text = if has_file {
-        fs::read_to_string(&rt, words[2].as_str())?
+    let file = if has_file {
+        Some(words[2].as_str())
     } else {
-        String::from_str(alloc, "guest:guest")?
+        None
     };
-    let mut broker = set_up(alloc, text)?;
-    serve(&rt, alloc, words[words.len() - 1].as_str(), &mut broker)?;
+    let broker = set_up(rt, file)?;
+    serve(rt, rt.alloc(), words[words.len() - 1].as_str(), broker)?;
     Ok(ExitCode::SUCCESS)
 }
 
-fn set_up(alloc: Global, users: String) -> anyhow::Result<Broker> {
-    let Some(users) = Users::read(users) else {
+/// A broker for the users of a file, or for guest alone.
+fn set_up(rt: &HostRuntime, file: Option<&str>) -> Result<Broker> {
+    let text = match file {
+        Some(file) => fs::read_to_string(rt, file)?,
+        None => String::from_str(rt.alloc(), "guest:guest")?,
+    };
+    let Some(users) = Users::read(text) else {
         anyhow::bail!("a line of the users is not name:password");
     };
-    match Broker::new(alloc, users) {
+    match Broker::new(rt.alloc(), users) {
         Ok(broker) => Ok(broker),
         Err(_) => anyhow::bail!("out of memory"),
     }

@@ -6,7 +6,7 @@ ghost use Rattle.amqp_method.specs.MethodRefView.{lent_call};
 ghost use Rattle.amqp_core.specs.Stream.Asks.{StreamAsked};
 ghost use Rattle.example_loop.specs.Gathering.{begun, content_there, gathered, left, sent_on, whole_of, with_part, with_properties};
 
-use crate::streaming::Streaming;
+use crate::link::Link;
 use amqp_core::{AskFault, Chunks, Role, StreamEnd};
 use amqp_method::{Carrier, Header, HeaderRef, Method, MethodRef};
 use std::alloc::{AllocError, Global};
@@ -48,11 +48,14 @@ impl Content {
     }
 
     /// Begins to send it, if it has a body and may begin now, and answers whether it did.
-    fn begin_on<R: Role>(&self, end: &mut Streaming<R>, channel: u16, source: u16) -> bool {
+    fn begin_on<R: Role>(&self, link: &mut Link<R>, channel: u16, source: u16) -> bool {
         let header: &Header = &self.header;
         let (method, properties) = (self.method.method(), &header.properties);
         let size = header.body_size;
-        size > 0 && end.begin(channel, source, method, properties, size).is_ok()
+        size > 0
+            && link
+                .begin(channel, source, method, properties, size)
+                .is_ok()
     }
 
     /// What has come of its body, in one piece.
@@ -142,15 +145,15 @@ impl Coming {
     pub fn pass_on<R: Role>(
         &mut self,
         alloc: Global,
-        end: &mut Streaming<R>,
+        link: &mut Link<R>,
         channel: u16,
         source: u16,
     ) -> anyhow::Result<()> {
         if let Some(content) = &mut self.content
-            && content.begin_on(end, channel, source)
+            && content.begin_on(link, channel, source)
         {
             let body = content.joined(alloc)?;
-            end.ahead.pass(&body)?;
+            link.ahead.pass(&body)?;
             self.content = None;
         }
         Ok(())

@@ -20,6 +20,5 @@ pub use crate::hello::{ABILITIES, BROKER_ABILITIES, client_end, has_word, server
 pub use crate::keys::key_from;
 pub use crate::link::{FULL, Heard, Link, MOST};
 pub use crate::plain::{alone, let_in, send_plain};
-pub use crate::running::{Program, serve};
+pub use crate::running::{Program, Served, serve};
 pub use crate::sockets::Connect;
-pub use crate::streaming::Streaming;

@@ -1,14 +1,14 @@
 //! One end of a connection with its socket, which never waits.
 ghost use Rattle.std.specs.Prelude.{◌≡◌, ◌≤◌, IfSome, length};
 
+use crate::ahead::Ahead;
 use crate::pulse::Pulse;
-use crate::streaming::Streaming;
 use amqp_core::{EventRef, Phase, Role, StreamEnd};
 use amqp_method::Kind;
 use mio::event;
 use mio::net::TcpStream;
 use std::alloc::Global;
-use std::io::{ErrorKind, Read};
+use std::io::{self, ErrorKind, Read, Write};
 
 /// Where more octets wait to be written, no more are to be made: a program doesn't read who asks for them.
 pub const FULL: usize = 1_048_576;
@@ -17,8 +17,13 @@ pub const FULL: usize = 1_048_576;
 pub const MOST: usize = 268_435_456;
 
 pub struct Link<R: Role> {
-    pub end: Streaming<R>,
+    /// In a box, so that what holds it is small, as a connection among others in a map.
+    pub end: Box<StreamEnd<R>>,
+    /// The frames of a content whose body was not there when it began. They go out before what the end puts.
+    pub ahead: Ahead,
     stream: TcpStream,
+    /// So many octets were written in all.
+    written: u64,
     /// As far as it is known, the socket has octets to read.
     can_read: bool,
     /// As far as it is known, the socket takes octets.
@@ -37,7 +42,9 @@ impl<R: Role> Drop for Link<R> {
     fn drop(self) {
         let Link {
             end: _,
+            ahead: _,
             stream: _,
+            written: _,
             can_read: _,
             can_write: _,
             is_gone: _,
@@ -51,8 +58,10 @@ impl<R: Role> Drop for Link<R> {
 impl<R: Role> Link<R> {
     pub fn new(alloc: Global, stream: TcpStream, end: Box<StreamEnd<R>>) -> Link<R> {
         Link {
-            end: Streaming::new(alloc, end),
+            end,
+            ahead: Ahead::new(alloc),
             stream,
+            written: 0,
             can_read: true,
             can_write: true,
             is_gone: false,
@@ -71,17 +80,17 @@ impl<R: Role> Link<R> {
 
     /// Whether nothing more is heard of the peer: the end is closed or has failed, or the peer is gone.
     pub fn is_over(&self) -> bool {
-        self.is_gone || matches!(self.end.inner().phase(), Phase::Closed | Phase::Failed)
+        self.is_gone || matches!(self.end.phase(), Phase::Closed | Phase::Failed)
     }
 
     /// Whether nothing is left to do.
     pub fn is_done(&self) -> bool {
-        self.is_gone || (self.is_over() && !self.end.has_output())
+        self.is_gone || (self.is_over() && !self.has_output())
     }
 
     /// Whether there is something to do at once.
     pub fn has_work(&self) -> bool {
-        let can_write = self.can_write && !self.is_gone && self.end.has_output();
+        let can_write = self.can_write && !self.is_gone && self.has_output();
         can_write || self.is_read()
     }
 
@@ -108,14 +117,26 @@ impl<R: Role> Link<R> {
 
     /// Writes once what waits, as far as the socket takes it.
     fn write(&mut self) {
-        if self.is_gone || !self.end.has_output() {
+        if self.is_gone || !self.has_output() {
             return;
         }
-        match self.end.write_to(&mut self.stream) {
-            Ok(()) => {}
+        match self.write_next() {
+            Ok(count) => self.written = self.written.saturating_add(count as u64),
             Err(failure) if failure.kind() == ErrorKind::WouldBlock => self.can_write = false,
             Err(_) => self.is_gone = true,
         }
+    }
+
+    /// Writes once of the frames that go first, or else of what the end puts. It answers how many octets went.
+    fn write_next(&mut self) -> io::Result<usize> {
+        if self.ahead.left().is_empty() {
+            let count = self.stream.write(self.end.output())?;
+            self.end.wrote(count);
+            return Ok(count);
+        }
+        let count = self.stream.write(self.ahead.left())?;
+        self.ahead.let_go(count);
+        Ok(count)
     }
 
     /// Writes once what waits, and what half a second owes if it passed.
@@ -129,27 +150,17 @@ impl<R: Role> Link<R> {
     /// Half a second passed: puts a heartbeat if one is due, and gives up a peer that fell silent though it is read.
     /// In the handshake and in a close a peer may be silent for half a minute.
     fn tick(&mut self) {
-        let (came, went) = self.end.counts();
-        self.pulse.tick(came, went, !self.is_held);
-        let end = self.end.inner();
-        let heartbeat = match end.phase() {
-            Phase::Running => end.heartbeat(),
+        let came = self.end.octets_taken();
+        self.pulse.tick(came, self.written, !self.is_held);
+        let heartbeat = match self.end.phase() {
+            Phase::Running => self.end.heartbeat(),
             _ => 15,
         };
         if heartbeat > 0 && self.pulse.is_over(heartbeat) {
             self.is_gone = true;
-        } else if heartbeat > 0 && self.pulse.owes_beat(heartbeat) && !self.end.has_output() {
-            // without memory for it the next tick tries again
-            let _ = self.end.beat();
+        } else if heartbeat > 0 && self.pulse.owes_beat(heartbeat) && !self.has_output() {
+            self.beat();
         }
-    }
-
-    /// The channel of the other side from which a content comes that is under way, unless the peer is gone.
-    pub fn source(&self) -> Option<u16> {
-        if self.is_gone {
-            return None;
-        }
-        self.end.source()
     }
 
     /// Takes octets up to the end of a frame, and answers how many, and what the frame says, if it is whole. None: all
@@ -160,7 +171,7 @@ impl<R: Role> Link<R> {
         if octets.is_empty() || self.is_over() {
             return None;
         }
-        let end = self.end.inner_mut();
+        let end: &mut StreamEnd<R> = &mut self.end;
         let Ok(step) = end.advance(octets) else {
             return None;
         };

@@ -6,8 +6,9 @@ mod peer;
 
 use crate::peer::{Done, Peer};
 use amqp_core::{Client, Phase, Server};
+use anyhow::Result;
 use example_loop::{
-    ABILITIES, Connect, Link, MOST, Program, client_end, has_word, key_from, server_end, word_after,
+    ABILITIES, Connect, Link, MOST, Program, Served, client_end, has_word, server_end, word_after,
 };
 use mio::event::Event;
 use mio::net::TcpStream;
@@ -21,18 +22,22 @@ Usage: example_proxy LISTEN BROKER [--log] [--user USER] [--password PASSWORD]
 
 Takes clients of AMQP 0-9-1 at the address LISTEN, as 127.0.0.1:5670, and connects to the broker at BROKER for each.";
 
-fn main(rt: HostRuntime) -> anyhow::Result<ExitCode> {
+fn main(rt: HostRuntime) -> Result<ExitCode> {
+    let words: Vec<String> = std::env::args(&rt)?.collect(rt.alloc())?;
+    run(&rt, &words)
+}
+
+fn run(rt: &HostRuntime, words: &[String]) -> Result<ExitCode> {
     let alloc = rt.alloc();
-    let words: Vec<String> = std::env::args(&rt)?.collect(alloc)?;
-    let log = has_word(&words, "--log");
-    let user = word_after(&words, "--user");
-    let password = word_after(&words, "--password");
+    let log = has_word(words, "--log");
+    let user = word_after(words, "--user");
+    let password = word_after(words, "--password");
     let values = usize::from(user.is_some()) + usize::from(password.is_some());
     if words.len() != 3 + usize::from(log) + 2 * values {
         eprintln!(rt; "{HELP}")?;
         return Ok(ExitCode::from(2));
     }
-    let mut relays = Relays {
+    let relays = Relays {
         alloc,
         broker: words[2].as_str().parse()?,
         user: user.unwrap_or("guest"),
@@ -40,7 +45,7 @@ fn main(rt: HostRuntime) -> anyhow::Result<ExitCode> {
         log,
         relays: BTreeMap::new(alloc),
     };
-    example_loop::serve(&rt, alloc, words[1].as_str(), &mut relays)?;
+    example_loop::serve(rt, alloc, words[1].as_str(), relays)?;
     Ok(ExitCode::SUCCESS)
 }
 
@@ -50,25 +55,14 @@ struct Relay {
     broker: Peer<Client>,
 }
 
-impl Relay {
+impl Served for Relay {
     fn has_work(&self) -> bool {
         self.client.link.has_work() || self.broker.link.has_work()
     }
 
-    /// Does what there is to do, and answers whether nothing is left. What can't be passed on ends both sides, and a
-    /// side is held while too much waits at the other.
-    fn turn(&mut self, rt: &impl Print, ticks: bool, room: &mut [u8]) -> bool {
-        if ticks || self.has_work() {
-            let (client, broker) = (&mut self.client, &mut self.broker);
-            let has_failed = pass_on(rt, client, broker, ticks, room).is_err();
-            if has_failed || client.octets(broker).saturating_add(broker.octets(client)) > MOST {
-                client.fail();
-                broker.fail();
-            }
-            client.link.is_held = broker.is_full(client);
-            broker.link.is_held = client.is_full(broker);
-        }
-        self.client.link.is_done() && self.broker.link.is_done()
+    fn note(&mut self, event: &Event) {
+        self.client.link.note(event);
+        self.broker.link.note(event);
     }
 }
 
@@ -83,7 +77,7 @@ fn pass_on(
 ) -> Done {
     client.pull(rt, broker, room)?;
     broker.pull(rt, client, room)?;
-    client.answer(broker.link.end.inner().phase() == Phase::Running);
+    client.answer(broker.link.end.phase() == Phase::Running);
     let source = broker.link.source();
     client.advance(true, source)?;
     broker.advance(source.is_some(), client.link.source())?;
@@ -105,41 +99,38 @@ struct Relays<'a> {
 }
 
 impl Program for Relays<'_> {
-    fn has_work(&self) -> bool {
-        self.relays.values().any(Relay::has_work)
+    type Connection = Relay;
+
+    fn connections(&mut self) -> &mut BTreeMap<usize, Relay> {
+        &mut self.relays
     }
 
-    fn add(&mut self, to: &impl Connect, number: usize, stream: TcpStream) -> Done {
+    fn accept(&mut self, to: &impl Connect, number: usize, stream: TcpStream) -> Result<Relay> {
         let alloc = self.alloc;
         let client = server_end(alloc, "example_proxy", &ABILITIES)?;
         let client = Peer::new(alloc, Link::new(alloc, stream, client), self.log);
         let stream = to.connect(number, self.broker)?;
         let broker = client_end(alloc, "example_proxy", &ABILITIES, self.user, self.password)?;
         let broker = Peer::new(alloc, Link::new(alloc, stream, broker), self.log);
-        drop(self.relays.insert(number, Relay { client, broker })?);
-        Ok(())
+        Ok(Relay { client, broker })
     }
 
-    fn note(&mut self, number: usize, event: &Event) {
-        if let Some(relay) = self.relays.get_mut(&number) {
-            relay.client.link.note(event);
-            relay.broker.link.note(event);
-        }
-    }
-
-    fn turn(&mut self, rt: &impl Print, ticks: bool, room: &mut [u8]) -> Done {
-        let mut next = 0;
-        for _ in 0..self.relays.len() {
-            let Some(number) = key_from(&self.relays, next) else {
-                break;
-            };
-            if let Some(relay) = self.relays.get_mut(&number)
-                && relay.turn(rt, ticks, room)
-            {
-                drop(self.relays.remove(&number));
+    /// What can't be passed on ends both sides, and a side is held while too much waits at the other.
+    fn turn(&mut self, rt: &impl Print, number: usize, ticks: bool, room: &mut [u8]) -> bool {
+        let Some(relay) = self.relays.get_mut(&number) else {
+            return true;
+        };
+        if ticks || relay.has_work() {
+            let (client, broker) = (&mut relay.client, &mut relay.broker);
+            let has_failed = pass_on(rt, client, broker, ticks, room).is_err();
+            let (for_client, for_broker) = (client.octets(broker), broker.octets(client));
+            client.link.is_held = broker.is_full(for_broker);
+            broker.link.is_held = client.is_full(for_client);
+            if has_failed || for_client.saturating_add(for_broker) > MOST {
+                client.fail();
+                broker.fail();
             }
-            next = number.saturating_add(1);
         }
-        Ok(())
+        relay.client.link.is_done() && relay.broker.link.is_done()
     }
 }

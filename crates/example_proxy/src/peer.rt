@@ -2,7 +2,7 @@
 ghost use Rattle.std.specs.Prelude.{◌≤◌, IfOk, IfSome, length};
 
 use crate::asking::{Channel, asked_by};
-use amqp_core::{Ask, EventRef, Role};
+use amqp_core::{Ask, EventRef, Role, StreamEnd};
 use amqp_method::reply;
 use amqp_value::ShortStr;
 use anyhow::Result;
@@ -26,6 +26,17 @@ impl Channels {
             return Some(&mut self.connection);
         }
         self.open.get_mut(&number)
+    }
+
+    /// The first that is open whose number is at least this, with its number.
+    fn next(&mut self, first: u16) -> Option<(u16, &mut Channel)> {
+        let number = key_from(&self.open, first)?;
+        Some((number, self.open.get_mut(&number)?))
+    }
+
+    /// A channel opens, whose number at the other side is there.
+    fn open(&mut self, alloc: Global, number: u16, partner: u16) -> Done {
+        Ok(drop(self.open.insert(number, Channel::new(alloc, partner))?))
     }
 }
 
@@ -53,7 +64,7 @@ impl<R: Role> Peer<R> {
     /// About how many octets wait for it, or are gathered for it at the other side.
     pub fn octets<P: Role>(&self, from: &Peer<P>) -> usize {
         let asks = self.channels.connection.octets;
-        let mut octets = self.link.end.waiting().saturating_add(asks);
+        let mut octets = self.link.waiting().saturating_add(asks);
         for channel in self.channels.open.values() {
             octets = octets.saturating_add(channel.octets);
         }
@@ -63,11 +74,11 @@ impl<R: Role> Peer<R> {
         octets
     }
 
-    /// Whether so much waits for it that the other side is not read, which has the rest of a content that goes out.
-    pub fn is_full<P: Role>(&self, from: &Peer<P>) -> bool {
+    /// Whether the other side isn't read where so many octets wait for this. It has the rest of a content that goes out.
+    pub fn is_full(&self, octets: usize) -> bool {
         let octets = match self.link.source() {
-            Some(_) => self.link.end.ahead.left().len(),
-            None => self.octets(from),
+            Some(_) => self.link.ahead.left().len(),
+            None => octets,
         };
         octets > FULL && !self.link.is_over()
     }
@@ -116,11 +127,9 @@ impl<R: Role> Peer<R> {
         if let Some(channel) = channels.get_mut(number) {
             self.pass(channel, is_source, heard)?;
         } else if let EventRef::Opened(_) = heard.event {
-            let partner = self.link.end.inner_mut().open_channel()?;
-            let own = Channel::new(self.alloc, number);
-            drop(self.channels.open.insert(partner, own)?);
-            let opened = Channel::new(self.alloc, partner);
-            drop(channels.open.insert(number, opened)?);
+            let partner = self.link.end.open_channel()?;
+            self.channels.open(self.alloc, partner, number)?;
+            channels.open(self.alloc, number, partner)?;
         }
         if let EventRef::ChannelClosed(..) | EventRef::Discarded(_) = heard.event {
             drop(channels.open.remove(&number));
@@ -134,7 +143,7 @@ impl<R: Role> Peer<R> {
     /// Asks what is said on a channel, or sends a part of the content that goes out from there.
     fn pass(&mut self, channel: &mut Channel, is_source: bool, heard: &Heard<'_>) -> Done {
         if is_source && let EventRef::Part(_, part, _) = heard.event {
-            self.link.end.ahead.pass(part)?;
+            self.link.ahead.pass(part)?;
         } else if let Some(partner) = channel.partner
             && let Some(ask) = asked_by(self.alloc, &mut channel.coming, partner, heard)?
         {
@@ -147,16 +156,16 @@ impl<R: Role> Peer<R> {
     pub fn begin<P: Role>(&mut self, from: &mut Peer<P>) -> Done {
         let mut next = 0;
         for _ in 0..from.channels.open.len() {
-            let Some(number) = key_from(&from.channels.open, next) else {
+            let Some((number, channel)) = from.channels.next(next) else {
                 break;
             };
-            if let Some(channel) = from.channels.open.get_mut(&number)
-                && let Some(partner) = channel.partner
+            if let Some(partner) = channel.partner
                 && let Some(own) = self.channels.open.get(&partner)
                 && own.waiting.is_empty()
             {
-                let (coming, end) = (&mut channel.coming, &mut self.link.end);
-                coming.pass_on(self.alloc, end, partner, number)?;
+                channel
+                    .coming
+                    .pass_on(self.alloc, &mut self.link, partner, number)?;
             }
             next = number.saturating_add(1);
         }
@@ -173,16 +182,14 @@ impl<R: Role> Peer<R> {
 
     /// Asks what waits on the channels, then what is for the connection: that at once, or once nothing else is left.
     pub fn advance(&mut self, at_once: bool, source: Option<u16>) -> Done {
-        let end = self.link.end.inner_mut();
+        let end: &mut StreamEnd<R> = &mut self.link.end;
         let (mut next, mut is_left) = (0, source.is_some());
         for _ in 0..self.channels.open.len() {
-            let Some(number) = key_from(&self.channels.open, next) else {
+            let Some((number, channel)) = self.channels.next(next) else {
                 break;
             };
-            if let Some(channel) = self.channels.open.get_mut(&number) {
-                channel.advance(end, source != Some(number))?;
-                is_left |= !channel.waiting.is_empty();
-            }
+            channel.advance(end, source != Some(number))?;
+            is_left |= !channel.waiting.is_empty();
             next = number.saturating_add(1);
         }
         if at_once || !is_left {
@@ -196,8 +203,9 @@ impl<R: Role> Peer<R> {
         self.push(0, Asking::Plain(Ask::Close(code, text), None))
     }
 
-    /// Closes the connection, and forgets what else waits.
+    /// Closes the connection, forgets what else waits, and lets it be read.
     pub fn fail(&mut self) {
+        self.link.is_held = false;
         self.channels.open.clear();
         drop(self.close(reply::INTERNAL_ERROR, "INTERNAL_ERROR"));
         drop(self.advance(true, None));
@@ -206,11 +214,11 @@ impl<R: Role> Peer<R> {
     /// Answers a client that logs in. It is let in once the broker has let in the proxy, and refused where it won't.
     pub fn answer(&mut self, lets_in: bool) {
         if lets_in {
-            drop(let_in(self.link.end.inner_mut()));
+            drop(let_in(&mut self.link.end));
         } else if let Some(first) = self.channels.connection.waiting.front()
             && let Asking::Plain(Ask::Close(code, text), _) = first
         {
-            drop(self.link.end.inner_mut().refuse(*code, text));
+            drop(self.link.end.refuse(*code, text));
         }
     }
 }
